@@ -11,12 +11,13 @@ deviation of 1 of the logarithm; demand is negative binomial with a size of 3. K
 - `common waves`: these go over from week to week, by 0.9;
 - `shifts`: once in 40 weeks the level of an item changes for good, with a deviation of 0.5; `common shifts`: that of all,
   with one of 0.3;
-- `growth`: all grow by 35% a year.
+- `growth`: all grow by 35% a year;
+- `half turned`: independent, but the season of every other item comes half a year later.
 
 Seasons are `none`, `mild` (a sine from 0.85 to 1.15) and `strong` (0.6 to 1.6), each begun in a month at random. `seen`
-is the share of classes for which the test sees a season, `own` that of items which then have one of their own. `error` is
-the root mean square of the index of an item, 1 if none is seen, less the true one, over months and classes; `flat` that
-of 1. Seeds are fixed: [place of the kind, of the season, years, items].
+is the share of classes for which the test sees a season, `own` that of items which then have one of their own, and `some`
+that of classes with such an item. `error` is the root mean square of the index of an item, 1 if none is seen, less the
+true one, over months and classes; `flat` that of 1. Seeds are fixed: [place of the kind, of the season, years, items].
 """
 from __future__ import annotations
 
@@ -33,7 +34,14 @@ import pandas as pd
 from scipy.signal import lfilter
 
 from crnplan.chances import Floats, Whole
-from crnplan.demand.index import FLAT, MONTHS, Years, class_index, own_index
+from crnplan.demand.index import (
+    FLAT,
+    MONTHS,
+    Years,
+    class_index,
+    own_alarms,
+    own_index,
+)
 from crnplan.demand.seasons import months_of
 from crnplan.read.dates import period_of
 from planner.studies.page import markdown
@@ -51,15 +59,17 @@ SEASONS: dict[str, Floats] = {
 KINDS = (
     *("independent", "lumpy", "common shocks", "common waves"),
     *("shifts", "common shifts", "growth"),
+    TURNED := "half turned",
 )
-OF_SEASONS = ("independent", "lumpy", "common shocks")  # of which power is measured
+# Of which power is measured.
+OF_SEASONS = ("independent", "lumpy", "common shocks", TURNED)
 YEARS, ITEMS = (2, 3, 4), (10, 60)
 CLASSES = {"none": 1000, "mild": 200, "strong": 200}
-FIGURES = ("seen", "own", "error")
+FIGURES = ("seen", "own", "some", "error")
 CASES = [
     (kind, season, years, items)
     for season in SEASONS
-    for kind in (KINDS if season == "none" else OF_SEASONS)
+    for kind in (KINDS[:-1] if season == "none" else OF_SEASONS)
     for years in YEARS
     for items in ITEMS
 ]
@@ -96,9 +106,9 @@ def levels(random: np.random.Generator, kind: str, items: int, weeks: int) -> Fl
 def demand(
     random: np.random.Generator, kind: str, index: Floats, years: int, items: int
 ) -> Whole:
-    """Draws the demand of a class: a row for each item."""
+    """Draws the demand of a class, whose items have an index each, or all the same: a row for each item."""
     weeks = years * YEAR
-    factors = index[months_of("week", FIRST, weeks)]
+    factors = index[:, months_of("week", FIRST, weeks)]
     factors = factors * np.exp(levels(random, kind, items, weeks))
     if kind == "lumpy":
         is_asked = random.random((items, weeks)) < 0.1 * factors
@@ -111,15 +121,21 @@ def case(kind: str, season: str, years: int, items: int, count: int) -> dict[str
     """Returns the figures of so many classes."""
     places = KINDS.index(kind), [*SEASONS].index(season)
     random = np.random.default_rng([*places, years, items])
-    seen, owns, squares = 0, list[float](), list[float]()
+    seen, some, owns, squares = 0, 0, list[float](), list[float]()
     for _ in range(count):
-        truth = np.roll(SEASONS[season], random.integers(MONTHS))
+        truth = np.roll(SEASONS[season], random.integers(MONTHS))[None]
+        if kind == TURNED:
+            truth = np.resize(
+                [truth[0], np.roll(truth[0], MONTHS // 2)], (items, MONTHS)
+            )
         drawn = demand(random, kind, truth, years, items).tolist()
         known = [Years.of(counts, "week", FIRST) for counts in drawn]
         index = class_index(known)
         seen += index is not None
-        own = [own_index(one, index) for one in known]
+        alarms = own_alarms(known)
+        own = [own_index(one, index, alarms) for one in known]
         owns.append(np.mean([one is not index for one in own]))
+        some += owns[-1] > 0
         values = np.array([one.values if one else FLAT for one in own])
         squares.append(float(((values - truth) ** 2).mean()))
     error = math.sqrt(np.mean(squares))
@@ -134,6 +150,8 @@ def case(kind: str, season: str, years: int, items: int, count: int) -> dict[str
         "seen_error": error_of(seen / count, count),
         "own": np.mean(owns),
         "own_error": np.std(owns, ddof=1) / math.sqrt(count),
+        "some": some / count,
+        "some_error": error_of(some / count, count),
         "error": error,
         "error_error": spread / (2 * error) if error else 0.0,
         "flat": float(np.std(SEASONS[season])),
@@ -171,6 +189,7 @@ def error_table(rows: pd.DataFrame) -> pd.DataFrame:
             name = f"{row['years']} years, {row['items']}"
             line[name] = percent(row["error"], row["error_error"])
         line["own, most"] = f"{100 * part['own'].max():.1f}"
+        line["classes, most"] = f"{100 * part['some'].max():.1f}"
         lines.append(line)
     return pd.DataFrame(lines)
 

@@ -1,9 +1,8 @@
-"""Tests that each argument of a public call takes what it says, or is refused by its name, whatever is given."""
+"""Tests that arguments of public calls take what means the same, or are refused with what to do."""
 from __future__ import annotations
 
 import datetime
-import inspect
-from collections.abc import Callable, Iterator, Mapping
+from collections.abc import Callable, Mapping
 from pathlib import Path
 from typing import Any, NamedTuple
 
@@ -12,10 +11,7 @@ import pandas as pd
 import pytest
 
 import crnplan as crn
-from crnplan.arguments import KINDS, OWN, word_of
-from crnplan.errors import CrnplanError, Refused
-from crnplan.options import within
-from planner.tests.test_options import OF_CALLS
+from crnplan.errors import Refused
 
 WEEKS = pd.date_range("2025-01-06", periods=60, freq="W-MON")
 SALES = pd.DataFrame({"item": 1, "date": WEEKS, "quantity": [3, 0, 5, 1] * 15})
@@ -32,27 +28,7 @@ FAST: dict[str, Any] = {
     "replications": 2,
     "jobs": 1,
 }
-ODD: dict[str, Any] = {
-    "None": None,
-    "text": "x",
-    "negative": -1,
-    "nan": float("nan"),
-    "int64": np.int64(3),
-    "float64": np.float64(0.5),
-    "list": [],
-    "dict": {},
-    "object": object(),
-    "flag": True,
-    "array": np.array([1, 2]),
-}
 DEMAND = [1, 2, 0, 3, 1, 0, 2] * 5
-# What a message calls an argument, if not by its name.
-SAID = {
-    "observed": "demand",
-    "history": "demand",
-    "leads": "lead time",
-    "best": "policy",
-}
 Called = tuple[Callable[..., Any], dict[str, Any]]
 
 
@@ -95,7 +71,7 @@ def calls(
         "orders_today": (plan.orders_today, {"stock": stock}),
         "of": (crn.Scenario.of, {"demand": [1, 2], "lead": [1], **costs}),
         "changed": (scenario.changed, changes),
-        "fit_demand": (crn.fit_demand, {"observed": DEMAND}),
+        "fit_demand": (crn.fit_demand, {"demand": DEMAND}),
         "sweep": (crn.sweep, grid),
         "doubt": (crn.doubt, {**doubt, "program": program}),
         "sensitivity": (crn.sensitivity, run),
@@ -114,66 +90,6 @@ def calls(
         "read_lead_times": (crn.read_lead_times, {"table": orders, "every": "week"}),
         "read_config": (crn.read_config, {"path": plan.path / "found.toml"}),
     }
-
-
-def names_of(function: Callable[..., Any], given: Mapping[str, Any]) -> list[str]:
-    """Returns the arguments of a function, also those that it takes and does not show, or those that are given if it takes
-    any."""
-    whole = inspect.signature(getattr(function, "__wrapped__", function))
-    parameters = whole.parameters.values()
-    if any(it.kind is it.VAR_KEYWORD for it in parameters):
-        return [*given]
-    return [it.name for it in parameters if it.name not in OWN]
-
-
-NAMES = "plan read_catalogue backtest open_plan plan_item exchange_curve curve item orders_today of changed fit_demand sweep"
-
-
-MORE = "doubt sensitivity check_keys trajectories run long_run report read_history read_lead_times read_config"
-
-
-@pytest.mark.parametrize("name", [*NAMES.split(), *MORE.split()])
-def test_each_argument_works_or_is_named(
-    name: str,
-    calls: Mapping[str, Called],
-    tmp_path: Path,
-    monkeypatch: pytest.MonkeyPatch,
-) -> None:
-    """A call with a value of another type works, or raises an error of ours that names the argument, or the value of a
-    path. The text x may be the name of a folder that is made here."""
-    monkeypatch.chdir(tmp_path)
-    function, given = calls[name]
-    wrong = []
-    for argument in names_of(function, given):
-        for kind, value in ODD.items():
-            if (argument, kind) == ("cluster", "text"):
-                continue  # An address that nobody answers at takes ten seconds.
-            try:
-                function(**{**given, argument: value})
-            except CrnplanError as why:
-                named = argument, SAID.get(argument, argument), "item"
-                said = *named, "x: ", "no.toml: "
-                if not any(part in str(why) for part in said):
-                    wrong.append((argument, kind, str(why)))
-            except Exception as why:
-                wrong.append((argument, kind, repr(why)))
-    assert wrong == []
-
-
-def words_of_calls() -> Iterator[Any]:
-    for table in OF_CALLS:
-        yield from within(table)
-
-
-def test_each_word_is_an_argument(calls: Mapping[str, Called]) -> None:
-    """Each word of calls alone is an argument of a call, and each kind of it is one that is read."""
-    taken = {
-        it for function, given in calls.values() for it in names_of(function, given)
-    }
-    assert {word.name for word in words_of_calls()} <= taken
-    assert {word.kind for word in words_of_calls()} <= KINDS.keys()
-    assert word_of("orders", ("curve", "call")).kind == "number"
-    assert word_of("orders", ("call", "curve")).kind == "table"
 
 
 class Same(NamedTuple):
@@ -230,7 +146,7 @@ REFUSED: list[tuple[str, dict[str, Any], str]] = [
     ("plan", {"sales": SALES.to_numpy()}, "sales: ndarray is no table with headings"),
     ("plan", {"sales": {"item": [1], "date": [2, 3]}}, "sales: no table: All arrays"),
     ("plan", {"masters": pd.Series([1])}, "masters: a Series is no table"),
-    ("plan", {"jobs": -1}, "jobs=-1 is not at least 1"),
+    ("plan", {"jobs": -1}, "jobs=-1 is not from 1 to 1,024"),
     ("plan", {"periods": 2.5}, "periods: 2.5 is not a whole number"),
     ("plan", {"net": 1}, "net: 1 is neither True nor False"),
     ("plan", {"every": 7}, "every: 7 is not one of day, week, month"),

@@ -61,41 +61,78 @@ def untyped(value: Any) -> Any:
 
 
 WRONG: dict[str, tuple[Make, str]] = {
-    "sum": (lambda: Law.of({0: 0.5, 1: 1.7}), "the weights add up to 2.2, and some"),
-    "just off": (lambda: Law.of({0: 0.5, 1: 0.4989}), "the weights add up to 0.9989"),
-    "part of a value": (lambda: Law.of(untyped({0.5: 1})), "value: 0.5 is not a whole"),
-    "flag as value": (lambda: Law.of({True: 1}), "value: true is not a whole number"),
-    "flag as weight": (lambda: Law.of({1: True}), "weight of 1: true is no weight"),
-    "text": (lambda: Law.of(untyped({1: "1"})), "weight of 1: '1' is no weight"),
-    "no weight": (lambda: Law.of({1: NAN}), "weight of 1: nan is no weight"),
-    "endless": (lambda: Law.of({1: INF}), "weight of 1: inf is no weight"),
-    "negative": (lambda: Law.of({1: 2, 2: -1}), "weights: -1 is below 0"),
-    "below 0": (lambda: Law.of({-1: 2, 2: 1}), "values: -1 is below 0"),
-    "nothing": (lambda: Law.of({}), "no weight is above 0"),
-    "only 0": (lambda: Law.of({1: 0}), "no weight is above 0"),
+    "sum": (
+        lambda: Law.of({0: 0.5, 1: 1.7}),
+        "weights: the weights add up to 2.2, and some",
+    ),
+    "just off": (
+        lambda: Law.of({0: 0.5, 1: 0.4989}),
+        "weights: the weights add up to 0.9989",
+    ),
+    "part of a value": (
+        lambda: Law.of(untyped({0.5: 1})),
+        "weights: value: 0.5 is not a whole",
+    ),
+    "flag as value": (
+        lambda: Law.of({True: 1}),
+        "weights: value: true is not a whole number",
+    ),
+    "flag as weight": (
+        lambda: Law.of({1: True}),
+        "weights: weight of 1: true is no weight",
+    ),
+    "text": (
+        lambda: Law.of(untyped({1: "1"})),
+        "weights: weight of 1: '1' is no weight",
+    ),
+    "no weight": (lambda: Law.of({1: NAN}), "weights: weight of 1: nan is no weight"),
+    "endless": (lambda: Law.of({1: INF}), "weights: weight of 1: inf is no weight"),
+    "negative": (lambda: Law.of({1: 2, 2: -1}), "weights: weights: -1 is below 0"),
+    "below 0": (lambda: Law.of({-1: 2, 2: 1}), "weights: values: -1 is below 0"),
+    "nothing": (lambda: Law.of({}), "weights: no weight is above 0"),
+    "only 0": (lambda: Law.of({1: 0}), "weights: no weight is above 0"),
     "no mapping": (
         lambda: Law.of(untyped([1, 2])),
-        r"\[1, 2\] is no mapping of values",
+        r"weights: \[1, 2\] is no mapping of values",
     ),
-    "parts": (lambda: Law.of_numbers([2, 1.5]), "entry 2: 1.5 is not a whole number"),
-    "missing": (lambda: Law.of_numbers([NAN]), "entry 1: nan is not a whole number"),
-    "flags": (lambda: Law.of_numbers([1, True]), "entry 2: true is not a whole number"),
-    "no numbers": (lambda: Law.of_numbers([]), "no weight is above 0"),
-    "a mapping": (lambda: Law.of_numbers({0: 3}), "dict is no list of whole numbers"),
-    "no list": (lambda: Law.of_numbers(untyped(5)), "int is no list of whole numbers"),
-    "NaN": (lambda: Law.of_chances(np.array([0.5, NAN])), "these are no chances"),
+    "parts": (
+        lambda: Law.of_numbers([2, 1.5]),
+        "numbers: entry 2: 1.5 is not a whole number",
+    ),
+    "missing": (
+        lambda: Law.of_numbers([NAN]),
+        "numbers: entry 1: nan is not a whole number; leave it out",
+    ),
+    "flags": (
+        lambda: Law.of_numbers([1, True]),
+        "numbers: entry 2: true is not a whole number; write it as 12",
+    ),
+    "no numbers": (lambda: Law.of_numbers([]), "numbers: no weight is above 0"),
+    "a mapping": (
+        lambda: Law.of_numbers({0: 3}),
+        "numbers: dict is no list of whole numbers",
+    ),
+    "no list": (
+        lambda: Law.of_numbers(untyped(5)),
+        "numbers: int is no list of whole numbers",
+    ),
+    "NaN": (
+        lambda: Law.of_chances(np.array([0.5, NAN])),
+        "chances: these are no chances",
+    ),
     "no chance": (
         lambda: Law.of_chances(np.array([1.5, -0.5])),
-        "these are no chances",
+        "chances: these are no chances",
     ),
     "chances": (
         lambda: Law.of_chances(np.array([0.5, 0.4])),
-        "the chances add up to 0.9",
+        "chances: these add up to 0.9",
     ),
-    "texts": (lambda: Law.of_chances(untyped("x")), "these are no chances"),
+    "ragged": (lambda: Law.of_chances(untyped([[1], 2])), "chances: these are no"),
+    "texts": (lambda: Law.of_chances(untyped("x")), "chances: these are no chances"),
     "NaN in tails": (
         lambda: Law.of_tails(np.arange(2), np.array([1.0, NAN])),
-        "these are no chances",
+        "at_least: these are no chances",
     ),
     "rising tails": (
         lambda: Law.of_tails(np.arange(3), np.array([1.0, 0.2, 0.3])),
@@ -111,13 +148,13 @@ WRONG: dict[str, tuple[Make, str]] = {
     ),
     "a negative share": (
         lambda: Law.of({1: 1.5, 2: -0.5}),
-        "weight of 2: -0.5 is no weight",
+        "weights: weight of 2: -0.5 is no weight",
     ),
     "falling": (lambda: Law((2, 1), (1, 1)), "the values do not rise"),
     "uneven": (lambda: Law((2, 1), (1,)), "there are 2 values and 1 weights"),
     "low weight": (lambda: Law((1, 2), (-1, 2)), "weights: -1 is below 0"),
     "zeros": (lambda: Law((1, 2), (0, 0)), "no weight is above 0"),
-    "factor": (lambda: Law((1,), (1,)).times(-1), "factor: -1 is below 0"),
+    "factor": (lambda: Law((1,), (1,)).times(-1), "factor=-1.0 is not at least 0"),
 }
 
 
@@ -134,6 +171,11 @@ def test_refused(name: str) -> None:
     make, why = WRONG[name]
     with pytest.raises(Refused, match=f"^{why}"):
         make()
+
+
+def test_many_times_a_law() -> None:
+    """Checks that what is above the greatest value of a scenario counts there, however many times a value is taken."""
+    assert Law((0, 3), (1, 1)).times(1e9) == Law((0, 10_000), (32_768, 32_768))
 
 
 def test_scenarios_take_what_laws_take() -> None:

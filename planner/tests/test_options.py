@@ -11,7 +11,15 @@ from crnplan.errors import Refused
 from crnplan.options import CALL, Option, declared, option, table_of, within
 from crnplan.plan.settings import check_of
 
-OF_CALLS = CALL, "fit", "page", "reading"  # tables whose words are arguments of calls
+OF_CALLS = (
+    CALL,
+    "fit",
+    "law",
+    "learn",
+    "page",
+    "reading",
+    "text",
+)  # tables whose words are arguments of calls
 # Tables whose words are keys of files.
 FILES = ["plan", *(f"settings.{name}" for name in declared()["settings"])]
 

@@ -146,6 +146,7 @@ def test_a_plan_whose_folder_is_gone(asked: str, path: Path, tmp_path: Path) -> 
         "moved"
     )
     assert repr(gone) == f"Plan({refused.value})"
+    assert gone._repr_html_() == f"<p>{refused.value}</p>\n"
     assert not folder.exists()
 
 

@@ -276,6 +276,8 @@ def test_stored_seasons(top: Path) -> None:
     table = stored(top, "seasons")
     assert len(table) == len(seasons.CASES)
     assert (table.query("season == 'none'")["seen"] <= 0.02).all()
+    assert table.query("season == 'none'")["some"].max() <= 0.06
+    assert table.query("kind != 'half turned'")["own"].max() <= 1 / 180
     table = stored(top, "season_plans").query("way == 'monthly'")
     assert len(table) == 2 * len(season_plans.CASES)
     assert (table.query("season == 'strong'")["at_equal_fill"] < 0.9).all()

@@ -101,6 +101,7 @@ def laws() -> None:
     assert_type(crn.check_history(history).text, str)
     assert_type(crn.check_history(history).frame, Frame)
     assert_type(crn.learn([[1, 2], [0, 3]]), crn.Prior)
+    assert_type(crn.learn([[1, 2], [0, 3]]).frame, Frame)
     assert_type(crn.Law.of({0: 1, 3: 1}), crn.Law)
     assert_type(crn.Law.of({0: 1, 3: 1}).frame, Frame)
     assert_type(crn.Law.of({0: 1, 3: 1}).plot(), Axes)

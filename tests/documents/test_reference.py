@@ -30,11 +30,7 @@ RULES = {"GL08", "PR01", "PR02", "PR04", "PR07", "RT03", "SS03"}
 OF_FUNCTIONS = {*RULES, "RT01", "EX01"}
 OF_MADE = {"GL08", "SS03"}
 MAKERS = {"Costs", "Law", "Policy", "Reading", "Settings"}
-# Methods that are public for the package alone.
-OF_THE_PACKAGE = {
-    *(f"OrdersToday.{name}" for name in ("check", "money", "write")),
-    *(f"Scenario.{name}" for name in ("of_laws", "of_tree", "with_policies")),
-}
+INTERNAL = ":meta private:"  # in the docstring of what is public for the package alone
 
 
 def members_of(found: type) -> Iterator[tuple[str, Any]]:
@@ -44,7 +40,8 @@ def members_of(found: type) -> Iterator[tuple[str, Any]]:
         is_own = homes and homes[0].__module__.startswith("crnplan")
         is_made = isinstance(its, (property, functools.cached_property))
         is_member = is_made or inspect.isroutine(getattr(its, "__func__", its))
-        if is_own and is_member and not name.startswith("_"):
+        is_internal = name.startswith("_") or INTERNAL in (its.__doc__ or "")
+        if is_own and is_member and not is_internal:
             yield name, its
 
 
@@ -62,8 +59,6 @@ def rules_of(place: str, found: object) -> set[str]:
     """Returns the rules for the docstring of a public name, or of a member of a public class."""
     if inspect.isclass(found):
         return RULES if place in MAKERS else OF_MADE
-    if place in OF_THE_PACKAGE:
-        return OF_MADE
     if inspect.isroutine(getattr(found, "__func__", found)):
         return RULES if "." in place else OF_FUNCTIONS
     return {"GL08"}
@@ -101,7 +96,7 @@ def test_names_of_the_reference(built: Path) -> None:
     }
     wanted = {f"crnplan.{name}" for name, _ in public()}
     wanted |= {f"{found.__module__}.{found.__name__}" for found in results()}
-    assert len(wanted) > 150
+    assert len(wanted) > 140
     assert wanted - known == set()
 
 

@@ -133,7 +133,7 @@ def plan(
         The folder of a `backtest`. Items are planned by the method that gained most there, of those by which there are plans:
         on the last periods, as refitted ones, with `correct`, or `together`, the last also for single classes; by their seasons
         if these gained or were not tested, and not if they lost.
-    jobs : int, at least 1, optional
+    jobs : int, from 1 to 1,024, optional
         How many processes work; by default one for each processor. The result is the same.
     cluster : str or distributed.Client, optional
         The address of a Dask scheduler, or a client, whose workers work in place of processes.

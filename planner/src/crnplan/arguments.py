@@ -4,6 +4,7 @@ from __future__ import annotations
 import functools
 import inspect
 import os
+import re
 from collections.abc import Callable, Iterable, Mapping
 from pathlib import Path
 from typing import Any, TypeVar, cast
@@ -16,6 +17,8 @@ from .toml.documents import shown
 Call = TypeVar("Call", bound=Callable[..., Any])
 Read = Callable[[Option, Any], Any]
 OWN = ("self", "cls")  # what a method is called on
+# What no file or item is called: NUL, and parts of characters; and the bytes of a name at most, on Linux.
+UNNAMED, MOST_OF_NAME = re.compile(r"[\x00\ud800-\udfff]"), 255
 
 
 def _refused(word: Option, value: Any, what: str, advice: str) -> Refused:
@@ -76,9 +79,17 @@ def _name(word: Option, value: Any) -> str:
     """Returns a name of an item or a column, as a table has it that is read."""
     from .read.frames import name_of
 
-    if not isinstance(value, str) and exact(value) is None:
+    is_text = isinstance(value, str) and not UNNAMED.search(value)
+    if not is_text and (isinstance(value, str) or exact(value) is None):
         raise _refused(word, value, "no name", "write it as in the table")
     return name_of(value)
+
+
+def _column(word: Option, value: Any) -> str:
+    name = _name(word, value)
+    if not name:
+        raise _refused(word, value, "no name", "write it as in the table")
+    return name
 
 
 def _several(read: Read) -> Read:
@@ -140,8 +151,9 @@ def _date(word: Option, value: Any) -> Any:
 
 
 def _path(word: Option, value: Any) -> str | Path:
-    text = os.fspath(value) if isinstance(value, (str, os.PathLike)) else ""
-    if not text or "\0" in str(text):
+    text = str(os.fspath(value)) if isinstance(value, (str, os.PathLike)) else ""
+    parts = [part.encode(errors="replace") for part in text.split(os.sep)]
+    if not text or UNNAMED.search(text) or max(map(len, parts)) > MOST_OF_NAME:
         raise _refused(word, value, "no path", "name a file or a folder")
     return value if isinstance(value, str) else Path(value)
 
@@ -186,6 +198,22 @@ def _of_class(word: Option, value: Any) -> Any:
     return value
 
 
+def _document(word: Option, value: Any) -> bytes:
+    """Returns the bytes of a text, or of what has bytes."""
+    if isinstance(value, (bytes, bytearray)):
+        return bytes(value)
+    try:
+        return _text(word, value).encode()
+    except UnicodeEncodeError:
+        raise _refused(word, value, "no text in UTF-8", "write characters") from None
+
+
+def _generator(word: Option, value: Any) -> Any:
+    if not hasattr(value, "choice") or not hasattr(value, "bit_generator"):
+        raise _refused(word, value, "no Generator", "give numpy.random.default_rng(1)")
+    return value
+
+
 def _anything(word: Option, value: Any) -> Any:
     """Returns what the call itself judges."""
     return value
@@ -208,7 +236,8 @@ KINDS: Mapping[str, Read] = {
     "places": _by_name(_by_name(_name)),
     "names": _by_name(_by_name(_several(_name))),
     "written": _by_name(_by_name(_anything)),
-    **dict.fromkeys(("name", "column"), _name),
+    "name": _name,
+    "column": _column,
     "items": _several(_name),
     "seed": _seed,
     "keys": _several(_key),
@@ -218,6 +247,8 @@ KINDS: Mapping[str, Read] = {
     "laws": _laws,
     "scheduler": _scheduler,
     "class": _of_class,
+    "document": _document,
+    "generator": _generator,
     "any": _anything,
 }
 

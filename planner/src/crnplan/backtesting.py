@@ -208,7 +208,7 @@ def backtest(
         A folder that keeps tables and all tests: tested again, only what has changed is tested.
     period : {"day", "week", "month"}, optional
         The period, which is `every` of `plan` and of `reading`; by default "week".
-    jobs : int, at least 1, optional
+    jobs : int, from 1 to 1,024, optional
         How many processes work; by default one for each processor. The result is the same.
     cluster : str or distributed.Client, optional
         The address of a Dask scheduler, or a client, whose workers work in place of processes.

@@ -63,7 +63,10 @@ class Catalogue:
     room: Room | None = field(default=None, repr=False, compare=False)
 
     def opened(self) -> contextlib.closing[Catalogued]:
-        """Returns what was read, to be closed after use."""
+        """Returns what was read, to be closed after use.
+
+        :meta private:
+        """
         return contextlib.closing(Catalogued(self.path))
 
     def fact(self, name: str) -> Json:
@@ -73,6 +76,8 @@ class Catalogue:
         ----------
         name : str
             `counts`, `found`, `said`, `sources`, `every`, `currency`, `decimals` or `periods`.
+
+        :meta private:
         """
         with self.opened() as read:
             return cast(Json, read.fact(name))
@@ -189,7 +194,7 @@ def read_catalogue(
         What a law can't be, and an item with a row that can't be read, is left out.
     reading : Reading, optional
         Words of reading that several calls share. A word is said there or by itself.
-    jobs : int, at least 1, optional
+    jobs : int, from 1 to 1,024, optional
         How many processes read large files; by default one for each processor.
     **words
         Any other word of `Reading`.

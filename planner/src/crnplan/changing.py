@@ -59,7 +59,10 @@ def key_words(key: str | Sequence[str]) -> list[str]:
         raise Refused(
             f"key: {shown(key)} is no key", "give a text, or four words of digits"
         )
-    digits, length = sha256(key), formats.DIGITS_OF_WORD
+    try:
+        digits, length = sha256(key), formats.DIGITS_OF_WORD
+    except UnicodeEncodeError:
+        raise Refused(f"key: {shown(key)} is no text in UTF-8") from None
     return [
         digits[place : place + length]
         for place in range(0, formats.WORDS_OF_KEY * length, length)

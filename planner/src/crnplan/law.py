@@ -2,13 +2,14 @@
 from __future__ import annotations
 
 from collections import Counter
-from collections.abc import Iterable, Mapping, Sequence
+from collections.abc import Callable, Iterable, Mapping, Sequence
 from dataclasses import dataclass
 from fractions import Fraction
 from functools import cached_property
 from operator import ge, mul
-from typing import TYPE_CHECKING, Any, cast
+from typing import TYPE_CHECKING, Any, TypeVar, cast
 
+from .arguments import judged
 from .errors import Refused
 from .formats import MOST_DEMAND, MOST_WEIGHT
 from .money import Number, exact, whole, whole_numbers
@@ -21,6 +22,7 @@ if TYPE_CHECKING:
 
     from .chances import Floats, Whole
 
+Made = TypeVar("Made")
 # By so much a sum of chances may differ from 1, as by rounding.
 MOST_OFF = Fraction(1, 1000)
 NEARLY_1 = float(MOST_OFF)
@@ -58,7 +60,7 @@ class Law:
         for name in ("values", "weights"):
             numbers = getattr(self, name)
             if type(numbers) is not tuple or {*map(type, numbers)} - {int}:
-                object.__setattr__(self, name, tuple(whole_numbers(numbers, name)))
+                object.__setattr__(self, name, tuple(_named(name, _whole, numbers)))
         values, weights = self.values, self.weights
         if not (values or weights):
             return
@@ -103,10 +105,15 @@ class Law:
         >>> crn.Law.of({0: 0.5, 4: 0.5})
         Law(values=(0, 4), weights=(32768, 32768))
         """
+        return _named("weights", cls._of, weights)
+
+    @classmethod
+    def _of(cls, weights: Mapping[int, Number]) -> Law:
+        """Makes a law as `of` does, whose refusals do not name the argument."""
         if not isinstance(weights, Mapping):
             raise Refused(
                 f"{shown(weights)} is no mapping of values to weights",
-                "write {0: 3, 1: 2}",
+                "write {0: 3, 1: 2}, or use of_numbers for what was observed",
             )
         if {*map(type, weights), *map(type, weights.values())} == {int}:
             return cls._of_whole(cast(Mapping[int, int], weights))
@@ -162,6 +169,8 @@ class Law:
         ----------
         shares : mapping of int to Fraction
             Shares above 0 by value. Raises Refused if their sum is not 1.
+
+        :meta private:
         """
         total = sum(shares.values(), Fraction(0))
         if abs(total - 1) > MOST_OFF:
@@ -179,6 +188,8 @@ class Law:
         ----------
         parts : mapping of int to Fraction
             Numbers from 0 by value.
+
+        :meta private:
         """
         import numpy as np
 
@@ -200,7 +211,12 @@ class Law:
         >>> crn.Law.of_numbers([0, 4, 4])
         Law(values=(0, 4), weights=(1, 2))
         """
-        return cls._of_whole(Counter(whole_numbers(numbers, "entry")))
+        return _named("numbers", cls._of_numbers, numbers)
+
+    @classmethod
+    def _of_numbers(cls, numbers: Iterable[Number]) -> Law:
+        """Makes a law as `of_numbers` does, whose refusals do not name the argument."""
+        return cls._of_whole(Counter(_whole(numbers)))
 
     @classmethod
     def of_chances(cls, chances: Floats) -> Law:
@@ -222,11 +238,11 @@ class Law:
         """
         import numpy as np
 
-        given = _chances(chances)
+        given = _chances(chances, "chances")
         total = given.sum()
         if abs(total - 1) > NEARLY_1:
             raise Refused(
-                f"the chances add up to {total:g}", "give chances with the sum 1"
+                f"chances: these add up to {total:g}", "give chances with the sum 1"
             )
         law = np.append(given[:MOST_DEMAND], given[MOST_DEMAND:].sum())
         return _rounded(np.arange(len(law)), np.cumsum(law[::-1])[::-1] / law.sum())
@@ -241,10 +257,12 @@ class Law:
             Rising values from 0.
         at_least : array of float
             The chance to be at least each value: 1 for the first, and then falling. Raises Refused for others.
+
+        :meta private:
         """
         import numpy as np
 
-        tails = _chances(at_least)
+        tails = _chances(at_least, "at_least")
         units = np.rint(MOST_WEIGHT * tails)
         is_law = len(values) == len(tails) > 0 and units[0] == MOST_WEIGHT
         if not is_law or np.any(np.diff(units) > 0):
@@ -254,11 +272,12 @@ class Law:
             )
         return _rounded(np.asarray(values), tails)
 
+    @judged("law")
     def times(self, factor: float) -> Law:
         """Returns the law of as many times each value.
 
         What is no whole number is shared by the two next to it, so that means are so many times as large too, up to the rounding
-        of `of_chances`.
+        of `of_chances`. What is above the greatest value of a scenario counts there.
 
         Parameters
         ----------
@@ -267,9 +286,7 @@ class Law:
         """
         import numpy as np
 
-        if not 0 <= factor < np.inf:
-            raise Refused(f"factor: {factor} is below 0, or no number")
-        exact = np.array(self.values) * factor
+        exact = np.minimum(np.array(self.values) * factor, MOST_DEMAND)
         below = exact.astype(int)
         above = (exact - below) * self.weights
         chances = np.zeros(below[-1] + 2)
@@ -285,12 +302,17 @@ class Law:
         ----------
         tree : mapping of str to sequence of int
             As a table of a scenario has it.
+
+        :meta private:
         """
         return Law(tuple(tree["values"]), tuple(tree["weights"]))
 
     @property
     def tree(self) -> dict[str, list[int]]:
-        """Returns the tree that TOML has."""
+        """Returns the tree that TOML has.
+
+        :meta private:
+        """
         return {"values": list(self.values), "weights": list(self.weights)}
 
     def toml(self, name: str) -> str:
@@ -300,6 +322,8 @@ class Law:
         ----------
         name : str
             The name of the table, as `demand`.
+
+        :meta private:
         """
         return (
             f"[{name}]\nvalues = {list(self.values)}\nweights = {list(self.weights)}\n"
@@ -307,7 +331,10 @@ class Law:
 
     @property
     def table(self) -> Law:
-        """Returns the values and weights alone."""
+        """Returns the values and weights alone.
+
+        :meta private:
+        """
         return Law(self.values, self.weights)
 
     @cached_property
@@ -320,6 +347,7 @@ class Law:
         """Returns the exact mean."""
         return Fraction(sum(map(mul, self.values, self.weights)), self.size)
 
+    @judged("law")
     def draws(self, random: np.random.Generator, count: int) -> list[int]:
         """Returns random values of the law.
 
@@ -328,7 +356,7 @@ class Law:
         random : numpy.random.Generator
             What draws them.
         count : int
-            How many, from 0.
+            How many, from 0 to 1,000,000.
         """
         import numpy as np
 
@@ -357,14 +385,32 @@ def _rounded(values: Whole, at_least: Floats) -> Law:
     return Law(tuple(values[kept].tolist()), tuple(weights[kept].tolist()))
 
 
-def _chances(numbers: Any) -> Floats:
-    """Returns numbers from 0 as an array. Raises Refused for anything else."""
+def _chances(numbers: Any, name: str) -> Floats:
+    """Returns numbers from 0 as an array. Raises Refused with the name of the argument for anything else."""
     import numpy as np
 
-    given = np.asarray(numbers)
+    refused = Refused(
+        f"{name}: these are no chances", "give one list of numbers from 0"
+    )
+    try:
+        given = np.asarray(numbers)
+    except ValueError:  # lists of several lengths
+        raise refused from None
     if given.ndim != 1 or given.dtype.kind not in "iuf" or not np.all(given >= 0):
-        raise Refused("these are no chances", "give one list of numbers from 0")
+        raise refused
     return given
+
+
+def _whole(numbers: Any) -> list[int]:
+    return whole_numbers(numbers, "entry")
+
+
+def _named(name: str, make: Callable[[Any], Made], given: Any) -> Made:
+    """Returns what is made of an argument, whose name each refusal has."""
+    try:
+        return make(given)
+    except Refused as why:
+        raise Refused(f"{name}: {why.what}", why.advice) from why
 
 
 # What stands for a law: a law, values with weights, or what was observed.
@@ -374,9 +420,7 @@ Chances = Law | Mapping[int, Number] | Iterable[Number]
 def law_of(law: Any, name: str) -> Law:
     """Returns the table of a law, of a mapping of values to weights, or of observed whole numbers. Raises Refused with the
     name of what it is."""
-    try:
-        if isinstance(law, Law):
-            return law.table
-        return Law.of(law) if isinstance(law, Mapping) else Law.of_numbers(law)
-    except Refused as why:
-        raise Refused(f"{name}: {why.what}", why.advice) from why
+    if isinstance(law, Law):
+        return law.table
+    make = Law._of if isinstance(law, Mapping) else Law._of_numbers
+    return _named(name, make, law)

@@ -84,6 +84,10 @@ class Costs:
     holding: int
     backlog: int
 
+    def __post_init__(self) -> None:
+        for name, cost in [*vars(self).items()]:
+            object.__setattr__(self, name, whole(cost, name))
+
 
 def exact(value: Any) -> Fraction | None:
     """Returns a number exactly; a float is what its shortest spelling says. None if it is no finite number, or is beyond
@@ -109,11 +113,14 @@ def whole(value: Any, name: str) -> int:
     if type(value) is int:
         return value
     number = None if isinstance(value, str) else exact(value)
-    if number is None or number.denominator != 1:
-        raise Refused(
-            f"{name}: {shown(value)} is not a whole number; round it, or count in a smaller unit"
-        )
-    return int(number)
+    if number is not None and number.denominator == 1:
+        return int(number)
+    advice = "write it as 12"
+    if number is not None:
+        advice = "round it, or count in a smaller unit"
+    elif value is None or str(value) in ("nan", "<NA>"):
+        advice = "leave it out"
+    raise Refused(f"{name}: {shown(value)} is not a whole number", advice)
 
 
 def whole_numbers(values: Any, name: str) -> list[int]:
@@ -124,7 +131,7 @@ def whole_numbers(values: Any, name: str) -> list[int]:
     if isinstance(numbers, (bytes, Mapping)) or not isinstance(numbers, Iterable):
         raise Refused(
             f"{type(values).__name__} is no list of whole numbers",
-            "give observed whole numbers",
+            "give a list of them",
         )
     given: list[int] = [*numbers]
     if {*map(type, given)} == {int}:

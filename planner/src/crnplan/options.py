@@ -40,8 +40,8 @@ class Option:
     - stated: what the function `read` takes; price and cost: money
     - path, folder, file, picture, file and column; form and style (of what is printed)
     - arguments of calls alone: places (texts by file and role), names (several by these), name and items (of a table),
-      seed, keys (of streams), conditions, table, catalogue (or a table), laws, scheduler; class (a value of the class `read`); any (what the
-      call itself judges)
+      seed, keys (of streams), conditions, table, catalogue (or a table), laws, scheduler; class (a value of the class `read`); document (a
+      text, or its bytes), generator (of random numbers); any (what the call itself judges)
 
     A key may be `needed` in its file, an option `required`. A `default` may be `shown`. `doc` says what the word means as an
     argument, if `help` says it of an option alone.

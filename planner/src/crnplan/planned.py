@@ -26,8 +26,7 @@ from .show.today_tables import OrdersToday, orders_today
 from .show.item_page import ItemWords, item_page, item_summary, policies_of
 from .plan.catalogue import planned_folder
 from .plan.totals import Totals
-from .plan.item import Depth
-from .plan.one import of_month
+from .plan.item import depth_of
 from .plan.survey import Survey
 from .plan.what_ifs import Moves
 from .read.catalogue_reading import READ
@@ -78,14 +77,9 @@ class PlannedItem(Result):
     def headline(self) -> str:
         """Returns the item, s and S of its chosen policy, and what that costs a period."""
         words = self.words
-        chosen = words.answer.chosen
-        (cost,) = (
-            policy.cost
-            for policy in words.depth.compared
-            if policy.name == words.depth.chosen
-        )
+        chosen, cost = words.whole.chosen, words.money(words.whole.cost_chosen)
         levels = f"s {chosen.point:,}, S {chosen.level:,}"
-        return f"{words.item.name}: {levels}, costs {words.money(cost)} a {words.every}"
+        return f"{words.item.name}: {levels}, costs {cost} a {words.every}"
 
     @property
     def table(self) -> DataTable:
@@ -294,7 +288,7 @@ class Plan(Result):
         with planned_folder(self._folder) as folder:
             item, answer = folder.item(name_of(name))
             question, program = folder.question(item), str(find_program(self.program))
-            depth = Depth(question, of_month(question, answer, program), program)
+            depth = depth_of(question, answer, program)
             return PlannedItem(ItemWords(depth, folder.every, folder.currency))
 
     def curve(
@@ -318,7 +312,7 @@ class Plan(Result):
             Has beside each named point what it met on the past.
         confirm : int, at least 0, default 0
             Of so many items crnsim counts the stock at each named point.
-        jobs : int, at least 1, optional
+        jobs : int, from 1 to 1,024, optional
             How many processes work; by default one for each processor.
         cluster : str or distributed.Client, optional
             The address of a Dask scheduler, or a client, whose workers work in place of processes.
@@ -426,6 +420,7 @@ class Plan(Result):
                 )
             return plot_savings(savings, folder.currency, folder.every, ax)
 
+    @judged("page", "call")
     def to_excel(self, path: str | Path, orders: OrdersToday | None = None) -> None:
         """Writes the plan as a workbook: its summary, decisions, orders, what is left out, the curve if it was drawn, classes, and
         what each column means.
@@ -463,7 +458,7 @@ class Plan(Result):
             Items that get pages of their own.
         orders : OrdersToday, optional
             What `orders_today` gave.
-        jobs : int, at least 1, optional
+        jobs : int, from 1 to 1,024, optional
             How many processes work; by default one for each processor.
         cluster : str or distributed.Client, optional
             The address of a Dask scheduler, or a client, whose workers work in place of processes.

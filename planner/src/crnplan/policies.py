@@ -35,6 +35,12 @@ class Policy:
     s: int
     S: int
 
+    def __post_init__(self) -> None:
+        if not isinstance(self.name, str):
+            raise Refused(f"name: {shown(self.name)} is no text", "write it in quotes")
+        for side in ("s", "S"):
+            object.__setattr__(self, side, whole(getattr(self, side), side))
+
     @classmethod
     def of_levels(cls, s: int, S: int, name: str = "") -> Policy:
         """Makes a policy of its levels.
@@ -46,12 +52,11 @@ class Policy:
         name : str, optional
             By default s1_S2, or s1S2 if that is too long.
         """
-        own = f"s{s}_S{S}"
-        return cls(
-            name or (own if len(own) <= formats.MOST_LETTERS else own.replace("_", "")),
-            s,
-            S,
-        )
+        policy = cls(name, s, S)
+        own = f"s{policy.s}_S{policy.S}"
+        if len(own) > formats.MOST_LETTERS:
+            own = own.replace("_", "")
+        return policy if policy.name else cls(own, policy.s, policy.S)
 
 
 def levels_of(pair: Any, name: str) -> tuple[int, int]:
@@ -75,7 +80,7 @@ def policies_of(given: Policies) -> list[Policy]:
             Policy.of_levels(*levels_of(pair, f"policies: {name}"), name)
             for name, pair in policies.items()
         ]
-    if not isinstance(policies, Iterable):
+    if isinstance(policies, (str, bytes)) or not isinstance(policies, Iterable):
         raise Refused(f"policies: {shown(policies)} is no list", "give pairs (s, S)")
     return [
         one

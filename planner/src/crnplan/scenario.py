@@ -78,7 +78,10 @@ class Scenario:
 
     @classmethod
     def of_tree(cls, tree: Mapping[str, object], source: str | None = None) -> Scenario:
-        """Makes a scenario from a tree as tomllib gives it, which is known to have no fault."""
+        """Makes a scenario from a tree as tomllib gives it, which is known to have no fault.
+
+        :meta private:
+        """
         fields: Tree = {**tree}
         fields |= {
             name: Law.of_tree(fields[name]) for name in formats.DRAWS if name in fields
@@ -109,6 +112,7 @@ class Scenario:
         }
 
     @classmethod
+    @judged("call")
     def read(cls, path: str | Path) -> Scenario:
         """Reads and checks a TOML file.
 
@@ -132,6 +136,7 @@ class Scenario:
         return cls.parse(read_bytes(path), "" if str(path) == "-" else str(path))
 
     @classmethod
+    @judged("text")
     def parse(cls, data: bytes | str, name: str = "") -> Scenario:
         """Reads and checks a text. Raises as `read` does.
 
@@ -142,11 +147,12 @@ class Scenario:
         name : str, optional
             What stands before each fault, as the name of a file.
         """
-        data = check_size(data.encode() if isinstance(data, str) else data, name)
-        tree, faults = read_scenario(data)
+        document = data.encode() if isinstance(data, str) else data
+        check_size(document, name)
+        tree, faults = read_scenario(document)
         if faults:
             raise error_of(faults, name)
-        return cls.of_tree(tree, text_of_document(data))
+        return cls.of_tree(tree, text_of_document(document))
 
     @classmethod
     def of(
@@ -244,7 +250,10 @@ class Scenario:
         replications: int,
         key: str | Sequence[str],
     ) -> Scenario:
-        """Makes a scenario without a check: see `of`. Without levels of today it has no policy."""
+        """Makes a scenario without a check: see `of`. Without levels of today it has no policy.
+
+        :meta private:
+        """
         version = formats.version_with(["returns"] if returns else [])
         policies = (Policy("today", *today),) if today else ()
         return cls(
@@ -305,7 +314,10 @@ class Scenario:
         return dataclasses.replace(made, scale=scale, has_initial=has_initial).started()
 
     def with_policies(self, policies: Iterable[Policy]) -> Scenario:
-        """Returns the scenario with these policies in place of its own, unchecked."""
+        """Returns the scenario with these policies in place of its own, unchecked.
+
+        :meta private:
+        """
         return dataclasses.replace(self, policies=tuple(policies))
 
     def toml(self) -> str:
@@ -337,7 +349,10 @@ class Scenario:
         return made.with_policies(dict.fromkeys([base, *others])).started()
 
     def started(self) -> Scenario:
-        """Returns the scenario with a stock at the start: halfway between s and S of its base, if none is stated."""
+        """Returns the scenario with a stock at the start: halfway between s and S of its base, if none is stated.
+
+        :meta private:
+        """
         if self.has_initial or not self.policies:
             return self
         initial = (self.base.s + self.base.S) // 2

@@ -16,6 +16,7 @@ from fractions import Fraction
 from functools import partial
 from typing import TYPE_CHECKING, Any, ClassVar, Literal
 
+from .errors import Refused
 from .words import counted
 
 if TYPE_CHECKING:
@@ -63,7 +64,8 @@ def csv_style(name: str) -> Iterator[None]:
 class Column:
     """A column: its name, what it has, in which unit, and what that means.
 
-    `written` is how a number is spelt in a file and `shown` how it is spelt for a reader: formats of Python, or MONEY.
+    `written` is how a number is spelt in a file and `shown` how it is spelt for a reader: formats of Python, which may end with
+    MONEY.
     Without them a number has all its digits; without `shown` a reader gets what a file has. `fact` makes a cell from what
     its row is of.
     """
@@ -123,8 +125,8 @@ class Column:
     ) -> Callable[[Cell], str]:
         """Returns the function that spells a cell. Money has so many decimals; `missing` stands for no figure."""
         style = self.shown if is_shown and self.shown else self.written
-        if style == MONEY:
-            style = f".{decimals}f"
+        if style.endswith(MONEY):
+            style = style.replace(MONEY, f".{decimals}f")
         if style.endswith(("f", "%")):  # no zero has a sign
             style = f"+z{style[1:]}" if style.startswith("+") else f"z{style}"
 
@@ -132,7 +134,7 @@ class Column:
             return format(float(value), style)
 
         spell: Callable[[Any], str] = str
-        if self.kind == "number" and style:
+        if self.kind in ("number", "whole") and style:
             spell = spelt_number
         elif self.kind == "text" and not is_shown:
             spell = unrun
@@ -459,7 +461,10 @@ class Result(ABC):
     def _repr_html_(self) -> str:
         """Shows in a notebook what it comes to, its first rows, how many more there are, and the notes."""
         lines = [line for line in self.notes.splitlines() if line]
-        some, left = self.table.brief(self.brief)
+        try:
+            some, left = self.table.brief(self.brief)
+        except Refused as why:  # what it is read from is gone
+            return f"<p>{html.escape(str(why))}</p>\n"
         said = [left, *lines[:MOST_NOTES]]
         parts = [f"<p>{html.escape(self.headline)}</p>\n", some.html]
         parts += [f"<p>{html.escape(line)}</p>\n" for line in said if line]

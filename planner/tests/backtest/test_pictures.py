@@ -2,17 +2,19 @@
 from __future__ import annotations
 
 import dataclasses
+from pathlib import Path
 from typing import Any
 
 import pytest
 
 from crnplan.plan.backtest.sums import Sums
+from crnplan.show import verdicts
 from crnplan.show.backtest_page import curve_plot, spread_plot
 from crnplan.show.backtest_tables import class_rows, first_line, past_line
 from crnplan.show.page import Scale, bars
 from crnplan.show.verdicts import METHOD_WORDS
 from crnplan.plan.backtest.catalogue import Past
-from crnplan.plan.backtest.methods import CORRECTED
+from crnplan.plan.backtest.methods import CORRECTED, METHODS
 from planner.tests.backtest.test_curves import catalogue
 from planner.tests.backtest.test_sums import PERIODS, made, outcome
 
@@ -44,6 +46,15 @@ def test_curves_by_hand() -> None:
     assert names == ["promised: 95.0%", "kept", "refitted"]
     assert plot.lines[1].path.count("L") == 1
     assert plot.lines[1].path.startswith("M166.7 1000L333.3 ")
+
+
+def test_each_method_has_a_line_of_its_own() -> None:
+    """No two methods have one style of line, and the page has each."""
+    folder = Path(verdicts.__file__).with_name("templates")
+    css = "".join((folder / it).read_text() for it in ("base.css", "backtest.html"))
+    styles = [METHOD_WORDS[method.code].style for method in METHODS]
+    assert len({*styles}) == len(styles)
+    assert all(f".{style} {{" in css for style in styles)
 
 
 @pytest.mark.parametrize(

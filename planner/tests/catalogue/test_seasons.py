@@ -15,11 +15,14 @@ import crnplan as crn
 from crnplan.plan.catalogue import planned_folder
 from crnplan.plan import swings
 from crnplan.plan.learned import PRIOR_WINDOW, SEASONS
-from planner.tests.conftest import Command
+from crnplan.show.verdicts import VERDICTS
+from planner.tests.conftest import Command, rows_of
 from planner.tests.plan.items import SHORT
+from planner.tests.show.page_reader import Page
 
 ITEMS, WEEKS, START = 11, 110, datetime.date(2022, 1, 3)
 END = "2024-02-11"  # the last Sunday of the record
+DECIDED = "Today's and the chosen policy, as in decisions.csv"
 FILES = "decisions.csv", "exact.csv", "levels.csv", "summary.txt", "report.html"
 WORDS: dict[str, Any] = {"every": "week", "end": END, "jobs": 1, **SHORT}
 
@@ -272,7 +275,8 @@ def test_curve(room: Path, tmp_path: Path, program: Path) -> None:
 
 
 def test_page_of_an_item(room: Path, tmp_path: Path, program: Path) -> None:
-    """The page of an item has its demand as it was, and figures of the first month."""
+    """The page of an item has its demand as it was, the verdict, costs and service of the year that decisions.csv has, and
+    other policies as of the first month."""
     folder = Path(shutil.copytree(room / "plan", tmp_path / "plan"))
     item = crn.open_plan(folder, program=program).item("warm-21")
     counts = pd.read_csv(room / "demand.csv").query("item == 'warm-21'")["quantity"]
@@ -282,9 +286,18 @@ def test_page_of_an_item(room: Path, tmp_path: Path, program: Path) -> None:
     assert chosen[["s", "S"]].tolist() == month[["s", "S"]].tolist()
     assert chosen["difference"] == pytest.approx(chosen["cost"] - today["cost"])
     crn.report(folder, ["warm-21"], program=program)
-    (page,) = [path.read_text() for path in (folder / "items").glob("*.html")]
+    (path,) = (folder / "items").glob("*.html")
+    page, table = path.read_text(), Page(path).tables
     assert "Levels of the coming year, above the demand of the last one" in page
-    assert "In February below" in page and "If February lasted, the chosen" in page
+    row = rows_of(room / "plan/decisions.csv")["warm-21"]
+    both = {name: cells for name, *cells in table[DECIDED][1:]}
+    for name, column in (("cost a week", "cost"), ("met at once", "fill")):
+        assert both[name] == [row[f"{column}_today"], row[f"{column}_chosen"]]
+    assert both["saving a week"][1] == row["saving"]
+    year = "In the mean of the coming year the chosen policy costs"
+    assert "In February below" in page and f"{year} {row['saving']} less" in page
+    assert VERDICTS[row["verdict"]].said.format("54, 162") in item.words.headline
+    assert "All policies if February lasted" in table and "lasted" in item.text
     months = crn.open_plan(folder).levels.query("item == 'warm-21'")
     for s, S in months[["s", "S"]].to_numpy():
         assert f"s {s} and S {S}" in page

@@ -339,7 +339,7 @@ def test_refused(case: dict[str, Any]) -> None:
 def test_what_has_no_text() -> None:
     """A number that is not there, and too many, are refused. The greatest number of boxes is taken."""
     for numbers, said in (
-        ([None], "0 numbers of demand"),
+        ([None], "demand: there are 0 numbers"),
         ([1] * 65_537, "65,537 numb"),
     ):
         with pytest.raises(Refused, match=said):

@@ -10,7 +10,16 @@ import pytest
 from scipy import stats
 
 from crnplan.demand import index
-from crnplan.demand.index import FLAT, MONTHS, Index, Years, class_index, own_index
+from crnplan.demand.index import (
+    FLAT,
+    MONTHS,
+    Index,
+    Years,
+    class_index,
+    own_alarms,
+    own_index,
+    pooled,
+)
 from crnplan.demand.seasons import CALENDAR
 from crnplan.read.dates import period_of
 
@@ -163,6 +172,46 @@ def test_season_of_an_item() -> None:
     assert own_index(years._replace(asked=np.full(4, 0.5)), of_class) is not of_class
     few = years._replace(asked=np.array([0.5, 0.9, 1.0, 0.4]))
     assert own_index(few, of_class) is of_class
+
+
+def half_turned(items: int, years: int = 2) -> list[Years]:
+    """Returns a class whose every other item has its season half a year later."""
+    seasons = STRONG, np.roll(STRONG, MONTHS // 2)
+    return [item_with(seasons[place % 2], years, 2_000) for place in range(items)]
+
+
+def test_class_whose_items_differ() -> None:
+    """Two years show the seasons of items of a class in which they differ, and none of a class in which they do not."""
+    class_ = half_turned(12)
+    assert class_index(class_) is None
+    alarms = own_alarms(class_)
+    for place, item in enumerate(class_):
+        own = own_index(item, None, alarms)
+        turned = np.roll(STRONG, MONTHS // 2 * (place % 2))
+        assert own and own.values == pytest.approx(turned, abs=0.1)
+    alike = [item_with(STRONG, 2, 200) for _ in range(12)]
+    assert own_alarms(alike) == 0
+    of_class = class_index(alike)
+    assert of_class and own_index(alike[0], of_class) is of_class
+
+
+def test_alarms_of_a_class() -> None:
+    """By adjusted p values (Yekutieli and Benjamini, 1999): those of the items up to the greatest that is at most 5%. Items
+    that are hardly asked for are not tested, and fewer than 10 say nothing, nor does a class of one year.
+    """
+    class_ = [*half_turned(6), *(item_with(FLAT, 2, 30) for _ in range(30))]
+    class_.append(class_[0]._replace(asked=np.array([1.0, 0.4])))
+    means, tested = pooled(class_), class_[:-1]
+    chances = sorted(index.chance_of(item.ratios - means) for item in tested)
+    ranks = np.arange(1, len(chances) + 1)
+    adjusted = np.array(chances) * len(chances) / ranks
+    adjusted = np.minimum.accumulate(adjusted[::-1])[::-1]
+    seen = int((adjusted <= 0.05).sum())
+    assert 4 <= seen <= 10
+    assert own_alarms(class_) == pytest.approx(0.05 * seen / len(chances))
+    assert chances[seen - 1] <= own_alarms(class_) < chances[seen]
+    assert own_alarms(half_turned(9)) == 0
+    assert own_alarms(half_turned(12, 1)) == 0
 
 
 def test_flattened() -> None:

@@ -11,6 +11,7 @@ from pathlib import Path
 from typing import Any
 
 import numpy as np
+import pandas as pd
 import pytest
 from hypothesis import given, settings, strategies as st
 from scipy import ndimage, special, stats
@@ -139,6 +140,10 @@ def test_text_of_a_prior(borrow: str, packed: Histories) -> None:
     prior = learn(packed, classes, borrow)
     parsed = Prior.parse(prior.text, "prior.json")
     assert parsed.text == prior.text
+    assert parsed == prior != learn(packed, classes, borrow, seed=2)
+    assert hash(parsed) == hash(prior)
+    counts = f"items={prior.items}, outside={prior.outside}"
+    assert repr(prior) == f"Prior(borrow={borrow!r}, seed=1, {counts})"
     for numbers in (RARE, packed["packs 2"]):
         expected = law_of(prior, numbers, "Größe 1")
         for again in (parsed, pickle.loads(pickle.dumps(prior))):
@@ -182,16 +187,49 @@ def test_refused_histories(mixed: Histories) -> None:
     text = "\n".join(map(str, refused.value.faults))
     assert len(refused.value.faults) == 5
     for said in (
-        "column 'demand of A-1': entry 2, -2, is below 0; correct it",
+        "histories: A-1: entry 2, -2, is below 0; correct it",
         "entry 4, -1, is below 0",
-        "demand of B-2: entry 2: 1.5 is not a whole number",
-        "there are 0 numbers of demand of C-3",
-        "column 'demand of D-4': entry 2, -7, is below 0",
+        "histories: B-2: entry 2: 1.5 is not a whole number",
+        "histories: C-3: there are 0 numbers",
+        "histories: D-4: entry 2, -7, is below 0",
     ):
         assert said in text
     first, *others = mixed.values()
-    with pytest.raises(RefusedFaults, match="demand of item 2: entry 3"):
+    with pytest.raises(RefusedFaults, match="histories: item 2: entry 3"):
         learn([first, [1, 2, 0.5], *others])  # type: ignore[list-item]
+
+
+def test_histories_of_frames(mixed: Histories) -> None:
+    """A DataFrame has a history in each column, and a Series classes by item. One that is not known is none."""
+    wide = pd.DataFrame({name: pd.Series(its) for name, its in mixed.items()})
+    groups = pd.Series("a", index=wide.columns)
+    groups[::2] = None
+    prior = learn(wide, groups.replace({None: np.nan}), "class")
+    assert prior == learn({**mixed}, dict(groups), "class")
+    frame = prior.frame
+    assert [*frame["group"]] == ["all", "a"]
+    assert [*frame["items"]] == [len(mixed), len(mixed) // 2]
+
+
+@pytest.mark.parametrize(
+    "words, said",
+    [
+        ({"histories": 5}, "histories: 5 is no list; give one for each item"),
+        ({"histories": "abc"}, "histories: 'abc' is no list"),
+        (
+            {"histories": [1], "borrow": "all"},
+            "histories: item 1: int is no list of whole numbers",
+        ),
+        ({"classes": 5}, "classes: 5 is no list"),
+        ({"classes": [[]] * 130}, r"classes: \[\] is no name of a class"),
+        ({"least": "x"}, "least: 'x' is not a whole number; write it as 12"),
+        ({"seed": -1}, "seed=-1 is not at least 0"),
+    ],
+)
+def test_hostile_words(words: dict[str, Any], said: str, mixed: Histories) -> None:
+    given = {"histories": [*mixed.values()], "borrow": "class", "classes": ["a"] * 130}
+    with pytest.raises(Refused, match=f"^{said}"):
+        learn(**given | words)  # type: ignore[arg-type]
 
 
 def test_classes(monkeypatch: pytest.MonkeyPatch, mixed: Histories) -> None:

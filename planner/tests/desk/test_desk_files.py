@@ -72,6 +72,45 @@ def test_exports_are_known_by_their_columns(
     assert kinds(planner) == expected
 
 
+@pytest.mark.parametrize(
+    "table,kind",
+    [
+        (
+            "Order,SKU,Order date,Qty,Unit price,Status\n1,A,06/14/2025,1,$9,Shipped",
+            "demand",
+        ),
+        ("SKU,On hand,Committed,Available\nA,16,2,14", "stock"),
+        ("SKU,Description\nA,Nut", "unknown"),
+        (
+            "Order,SKU,Order date,Receipt date,Qty\n1,A,2025-06-02,2025-06-09,5",
+            "orders",
+        ),
+        ("PO,Part no.,Qty ordered,Qty received\n7,A,4,1", "unknown"),
+        ("Artikelnummer;Bestellmenge offen;Liefertermin\nA;5;01.12.2026", "on_order"),
+        ("Part no.;Std cost\nA;5", "items"),
+    ],
+)
+def test_a_file_is_of_the_kind_of_its_columns(
+    table: str, kind: str, planner: Planner
+) -> None:
+    """Dates of sales may be those of orders. A file with names of items alone is no master, and one of two columns of stock
+    makes a stock."""
+    planner.post("/files/drop", {"files": [file_of(table.encode(), "one.csv")]})
+    assert kinds(planner) == {"one.csv": kind}
+
+
+def test_a_file_keeps_its_words(planner: Planner) -> None:
+    """The name of a file in the desk has the words of its own one that are letters of ASCII, and messages have it."""
+    names = "Offene Bestellungen 2.csv", "Zählung <b>%.csv", "出荷.csv"
+    for name in names:
+        planner.post("/files/drop", {"files": [file_of(b"a,b\n1,2\n", name)]})
+    ours = [file.name for file in planner.desk.state.files]
+    assert ours == ["0001-offene-bestellungen-2.csv", "0002-zahlung-b.csv", "0003.csv"]
+    assert all(
+        (planner.desk.path / file.place).is_file() for file in planner.desk.state.files
+    )
+
+
 def test_an_encoding_is_chosen_once(planner: Planner, tmp_path: Path) -> None:
     """Files in cp932 that are too short to show it are asked for; the next ones are dropped and known."""
     files = exported("japanese", tmp_path / "made")
@@ -211,7 +250,8 @@ def test_hostile_headings_and_names_stay_texts(planner: Planner) -> None:
     name = "../../../etc/<img src=x onerror=alert(1)>.csv"
     planner.post("/files/drop", {"files": [file_of(table.encode(), name)]})
     (file,) = planner.desk.state.files
-    assert file.name == "0001.csv" and file.place == "files/demand/0001.csv"
+    assert file.name == "0001-img-src-x-onerror-alert-1.csv"
+    assert file.place == f"files/demand/{file.name}"
     for form in (
         {"kind": "demand", "role-3": "returned"},
         {"kind": "demand", "role-3": "promotion"},
@@ -227,7 +267,7 @@ def test_a_likely_encoding_is_offered(planner: Planner, tmp_path: Path) -> None:
     """The only encoding in which SAP's masters are likely written is chosen in the list, and kept as soon as that is saved."""
     dropped(planner, exported("sap", tmp_path / "made"))
     page = planner.get("/files").text
-    _, _, masters = page.partition("Material.csv")
+    _, _, masters = page.partition("Material.csv</h2>")
     assert chosen_in(masters, "encoding") == "cp1252" and "Höchstbestand" in masters
     assert "Likely it is cp1252" in page
 
@@ -257,14 +297,14 @@ def test_what_was_read_is_shown(planner: Planner) -> None:
     page = planner.get("/files").text
     _, _, controls = page.partition("Control totals")
     cells = re.findall(r'<td(?: class="left data")?>(.*?)</td>', controls)
-    assert cells[:6] == ["0001.csv", "read", "10", "45", "-", "2026-01-05"], cells
-    assert "0001.csv:11, item A: &#39;many&#39; is not a number" in page
+    assert cells[:6] == ["0001-d.csv", "read", "10", "45", "-", "2026-01-05"], cells
+    assert "0001-d.csv:11, item A: &#39;many&#39; is not a number" in page
     assert "crnplan catalogue" in page and "--check" in page
     answer = planner.get("/files/rejects.csv")
     assert answer.headers["Content-Disposition"] == "attachment; filename=rejects.csv"
     heading, row = answer.text.splitlines()
     assert heading.startswith("kind,file,line,item")
-    assert row.startswith("row,0001.csv,11,A,quantity,many,")
+    assert row.startswith("row,0001-d.csv,11,A,quantity,many,")
 
 
 def test_a_change_begins_to_read_anew(planner: Planner) -> None:
@@ -289,7 +329,7 @@ def test_what_could_not_be_read_stands_at_the_top(planner: Planner) -> None:
     ]
     planner.post("/files/drop", {"files": files})
     for name in (ours(planner, "d.csv"), ours(planner, "m.csv")):
-        kind = "demand" if name == "0001.csv" else "items"
+        kind = "demand" if name.startswith("0001") else "items"
         planner.post(f"/files/{name}", {"kind": kind})
     assert "no column looks like the setup" in planner.wait()[0]
     page = planner.get("/files").text
@@ -367,7 +407,11 @@ def test_packed_file_is_kept_unpacked(
     sent = {"files": file_of(gzip.compress(rows), "sales.csv.gz")}
     assert planner.post("/files/drop", sent).status_code == 303
     (file,) = planner.desk.state.files
-    assert (file.kind, file.name, file.called) == ("demand", "0001.csv", "sales.csv.gz")
+    assert (file.kind, file.name, file.called) == (
+        "demand",
+        "0001-sales-csv.csv",
+        "sales.csv.gz",
+    )
     assert (planner.desk.path / file.place).read_bytes() == rows
     monkeypatch.setattr(kept, "MOST_FILE", 1_000)
     for data in (rows, gzip.compress(bytes(1_001)), gzip.compress(rows)[:-9]):

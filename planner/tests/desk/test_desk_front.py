@@ -120,6 +120,6 @@ def test_fault_of_work_is_said(planner: Planner) -> None:
     ) as process:
         assert process.stdin and process.stdout
         print(json.dumps(asked), file=process.stdin, flush=True)
-        told = json.loads(process.stdout.readline())
-    assert told["ended"] == "refused"
+        begun, told = map(json.loads, process.stdout)
+    assert begun == {} and told["ended"] == "refused"
     assert "a fault of crnplan itself: ZeroDivisionError" in told["said"][0]

@@ -29,11 +29,11 @@ from planner.tests.conftest import Command
 from planner.tests.desk.conftest import MADE_PLAN, Planner, add_made_plan
 from planner.tests.show import made_catalogue
 
-DAY, PACK, PRICE, LEAST = MADE_PLAN, 6, Fraction(5, 2), 900
+DAY, ITEMS, OWED = MADE_PLAN, 18, "P00008"
+PACK, PRICE, LEAST = 6, Fraction(5, 2), 900
 RUN, TAG, TURNED = "=cmd|'/C calc'!A0", "<script>alert(1)</script>", "\u202egnp & Co"
 SUPPLIERS = RUN, TAG, TURNED
 NAMES = "=1+1", "<b>bold</b>", "\u202etxt.exe", "a\"b'c", "0017", "x,y;z", "{{7*7}}"
-ITEMS, OWED = 18, "P00008"
 made_pair = made_catalogue.made_pair
 
 
@@ -369,11 +369,36 @@ def test_placed_is_suggested_no_longer(planner: Planner, shown: Shown) -> None:
     }
 
 
+def test_what_did_not_come_stays_on_order(planner: Planner, shown: Shown) -> None:
+    """Of 30 placed items 12 came: 18 stay. What is not ticked stays whole, and more than was placed can't come."""
+    shown.send(shown.form("0017"), "/today/place")
+    placed = [*planner.desk.state.placed]
+    (order,) = (it for it in placed if it.item == "0017")
+    for came, rest in (("31", 30), ("12", 18), ("", 0)):
+        form = Shown(planner).ending()
+        fields = [(name, value) for name, value in form.fields if "came" not in name]
+        fields += [(f"came {order.key}", came), ("order", order.key)]
+        form = Form(form.action, [*fields, ("way", "received")])
+        sent = Shown(planner).send(form)
+        assert sent.status_code == (400 if came == "31" else 303)
+        left = {it.item: it.quantity for it in planner.desk.state.placed}
+        assert left.get("0017", 0) == rest
+        assert left.keys() >= {it.item for it in placed} - {"0017"}
+
+
+def test_what_was_typed_is_shown_again(planner: Planner, shown: Shown) -> None:
+    """A form that is refused is shown with its quantities beside those that are kept."""
+    sent = shown.send(shown.form("0017"), change={"0017": "50"}, without="=1+1")
+    assert "50 of 0017 is not in packs of 6" in refusal(sent)
+    for name, typed in (("0017", 50), ("=1+1", 0)):
+        assert f"<li><bdi>{name}</bdi>: you typed {typed}</li>" in sent.text
+    assert len(re.findall('<span class="warn small">you typed', sent.text)) == 2
+
+
 def test_all_orders_are_placed(planner: Planner, shown: Shown) -> None:
-    orders = shown.lines
     shown.send(shown.forms[-2], "/today/place")
     placed = {order.item: order.quantity for order in planner.desk.state.placed}
-    assert (placed, Shown(planner).lines) == (orders, {})
+    assert (placed, Shown(planner).lines) == (shown.lines, {})
 
 
 def test_newer_file_takes_over(
@@ -398,6 +423,11 @@ def test_newer_file_takes_over(
     shown = Shown(planner)
     assert shown.lines.keys() == orders.keys() - {*own}
     assert shown.text.count("<td>counts as on order") == 1
+    assert re.search("(?s)<td>counts as on order.*<td>is in the newer", shown.text)
+    shown.send(shown.ending(), "", None, ("way", "filed"))
+    assert [it.item for it in planner.desk.state.placed] == [own[1]]
+    assert Shown(planner).lines.keys() == orders.keys() - {*own}
+    assert "newer file has off this list" not in Shown(planner).text
 
 
 def test_two_browsers(planner: Planner, shown: Shown) -> None:
@@ -406,7 +436,8 @@ def test_two_browsers(planner: Planner, shown: Shown) -> None:
     assert shown.send(shown.form("0017"), "/today/place").status_code == 303
     for to in ("/today/place", "/today/save"):
         sent = other.send(other.form("0017"), to)
-        assert "the orders have changed since this page was shown" in refusal(sent)
+        assert "The orders have changed since this page was shown" in refusal(sent)
+        assert "von Ihnen eingegeben: 30" in sent.text
     assert len(planner.desk.state.placed) == 3
     assert Shown(other.planner).lines == Shown(planner).lines
 

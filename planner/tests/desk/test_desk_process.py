@@ -7,6 +7,7 @@ import shlex
 import signal
 import threading
 from collections.abc import Iterator
+from concurrent.futures import ThreadPoolExecutor
 from pathlib import Path
 
 import psutil
@@ -14,15 +15,18 @@ import pytest
 
 from crnplan.desk import work
 from crnplan.desk.kept import DESK
-from crnplan.desk.server import serve
+from crnplan.desk.server import THREADS, serve
 from crnplan.errors import Refused
 from crnplan.read.catalogue_reading import CATALOGUE
-from crnplan.store.files import own_folder
+from crnplan.store.files import own_folder, read_folder
 from planner.tests.conftest import Command
 from planner.tests.desk.conftest import LONGEST, add_export, wait_for
 from planner.tests.desk.conftest import opened as in_process
 from planner.tests.desk.monday import warehouses
 from planner.tests.desk.opened import Opened
+
+
+ARENA = 1 << 26  # bytes
 
 
 @pytest.fixture
@@ -47,6 +51,27 @@ def test_interrupt_ends_it(opened: Opened) -> None:
     opened.process.send_signal(signal.SIGINT)
     assert opened.ended() == (0, "")
     assert leaves_nothing(opened, processes)
+
+
+def test_many_requests_at_once(opened: Opened) -> None:
+    """More than there are threads wait for their turn, and nothing is printed of that."""
+    with ThreadPoolExecutor(6 * THREADS) as threads:
+        answers = [*threads.map(opened.get, ["/files"] * (12 * THREADS))]
+    assert {status for status, _ in answers} == {200}
+    opened.process.send_signal(signal.SIGINT)
+    assert opened.ended() == (0, "")
+
+
+def test_threads_share_memory(opened: Opened) -> None:
+    """No thread has memory of its own, which the C library would reserve by 64 MB, at a multiple of that."""
+    with ThreadPoolExecutor(THREADS) as threads:
+        [*threads.map(opened.get, ["/files"] * (4 * THREADS))]
+    maps = Path(f"/proc/{opened.process.pid}/maps").read_text()
+    spans = [line.split()[0].split("-") for line in maps.splitlines()]
+    starts = {int(start, 16) for start, _ in spans}
+    ends = {int(end, 16) for _, end in spans}
+    reserved = [place for place in starts if place % ARENA == 0]
+    assert not [place for place in reserved if place + ARENA in ends]
 
 
 def test_button_closes_it(opened: Opened) -> None:
@@ -153,7 +178,7 @@ HEADS = {
 def test_bytes_of_others(opened: Opened) -> None:
     """Whatever is sent, nothing of the machine is shown, nothing is written, and the desk goes on."""
     cookie = f"Cookie: {opened.cookie}\r\nConnection: close\r\n"
-    own = f"Host: {opened.host}\r\n{cookie}"
+    own = f"Host: {opened.host}\r\nOrigin: http://{opened.host}\r\n{cookie}"
     inside = {*opened.folder.rglob("*")}
     facts = {"own": own, "cookie": cookie, "large": "x" * 300_000}
     assert b" 200 " in opened.raw(f"GET /plan HTTP/1.1\r\n{own}\r\n".encode())
@@ -173,14 +198,15 @@ def test_bytes_of_others(opened: Opened) -> None:
 
 
 def test_work_waits_for_what_was_killed(tmp_path: Path) -> None:
-    """Work that begins while the last one still ends waits for that, and is not refused."""
-    waiting = threading.Thread(target=work.wait_for, args=[tmp_path])
-    with own_folder(tmp_path, CATALOGUE):
-        waiting.start()
-        waiting.join(0.3)
-        assert waiting.is_alive()
-    waiting.join(LONGEST)
-    assert not waiting.is_alive()
+    """Work that begins while the last one still ends, or a page reads its folder, waits for that, and is not refused."""
+    for holding in (own_folder, read_folder):
+        waiting = threading.Thread(target=work.wait_for, args=[tmp_path])
+        with holding(tmp_path, CATALOGUE):
+            waiting.start()
+            waiting.join(0.3)
+            assert waiting.is_alive()
+        waiting.join(LONGEST)
+        assert not waiting.is_alive()
     work.wait_for(tmp_path / "new")
 
 
@@ -208,11 +234,14 @@ def test_no_other_address_is_shown(address: str, tmp_path: Path) -> None:
 
 
 def test_work_is_stopped_at_once(tmp_path: Path) -> None:
-    """Work that has hardly begun is stopped as any other, and goes on; work that is killed says so."""
+    """Work that has hardly begun is stopped as any other, and goes on, also where interrupts are ignored; work that is
+    killed says so."""
     with in_process(tmp_path / "desk") as front:
         add_export(front, warehouses(tmp_path))
+        usual = signal.signal(signal.SIGINT, signal.SIG_IGN)
         front.read()
         front.stop()
+        signal.signal(signal.SIGINT, usual)
         state = front.desk.state
         assert (state.ended, state.said, state.read) == (work.STOPPED, [], -1)
         front.read()

@@ -73,7 +73,8 @@ def listed(planner: Planner, room: Path, **query: Any) -> pd.DataFrame:
         if answer.status_code == 400:
             break
         _, *more = page_of(planner, room, **query, page=page).tables["All items"]
-    return pd.DataFrame(rows, columns=heading)
+    names = [name.partition(",")[0] for name in heading]  # without their units
+    return pd.DataFrame(rows, columns=names)
 
 
 SORTS = [
@@ -132,8 +133,9 @@ def test_first_screen_is_that_of_the_page(buyer: Planner, tmp_path: Path) -> Non
 def test_headings_sort(buyer: Planner, tmp_path: Path) -> None:
     """A click on the heading sorts by it, numbers from the greatest on, and a second click the other way."""
     links = page_of(buyer, tmp_path).links
-    assert "sort=saving" in links["saving"] and "falls" not in links["saving"]
-    assert "sort=cost_today&falls=1" in links["cost today"]
+    saving = links["saving, money a week"]
+    assert "sort=saving" in saving and "falls" not in saving
+    assert "sort=cost_today&falls=1" in links["cost today, money a week"]
     assert "sort=verdict" in links["verdict"] and "falls" not in links["verdict"]
     again = page_of(buyer, tmp_path, sort="verdict").links
     assert "sort=verdict&falls=1" in again["verdict"]
@@ -142,7 +144,8 @@ def test_headings_sort(buyer: Planner, tmp_path: Path) -> None:
 def test_links_keep_what_was_asked(buyer: Planner, tmp_path: Path) -> None:
     links = page_of(buyer, tmp_path, verdict="cheaper").links
     assert "verdict=cheaper" in links["Next page"] and "page=2" in links["Next page"]
-    assert "verdict=cheaper" in links["saving"] and "page" not in links["saving"]
+    saving = links["saving, money a week"]
+    assert "verdict=cheaper" in saving and "page" not in saving
     last = page_of(buyer, tmp_path, page=3).links
     assert "page=2" in last["Previous page"] and "Next page" not in last
 

@@ -41,7 +41,7 @@ def test_name_of_a_file_is_no_path(
     assert answer.status_code in (303, 400), answer.text
     assert {it for it in inside(tmp_path) if not it.startswith("desk/")} == around
     for file in planner.desk.state.files:
-        assert re.fullmatch(r"\d{4}\.csv", file.name)
+        assert re.fullmatch(r"\d{4}[-a-z0-9]{,56}\.csv", file.name)
         assert (planner.desk.path / file.place).read_bytes() == DEMAND
     text = planner.get("/files").text
     assert "<img" not in text and "<script>" not in text

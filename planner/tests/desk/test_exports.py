@@ -77,7 +77,7 @@ def test_from_two_files_to_orders_and_a_workbook(
     listed = crnplan("today", plan, "--date", TODAY, "--out", today)
     values = check_orders(plan, today, parts)
     worth = f"{len(values)} orders, worth {export.currency} {values.sum():,.2f}"
-    said = f"{TODAY}: {worth}, without what is on order: say"
+    said = f"{TODAY}: {worth}, without what is on order\n"
     assert said in listed.output
     assert crnplan("report", plan, "--xlsx", book, "--program", program).status == 0
     check_book(book, plan, parts.index, values.sum())

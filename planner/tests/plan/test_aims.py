@@ -140,3 +140,19 @@ def test_what_has_no_trial() -> None:
     )
     with pytest.raises(Refused, match="no policy meets a tried fill rate"):
         levels_of(theory)
+
+
+@pytest.mark.parametrize("months, has_trial", [(7, False), (6, True)])
+def test_an_item_that_has_become_quiet_is_not_tried(
+    months: int, has_trial: bool
+) -> None:
+    """After so many months with demand it was quiet for as many: by chance alone, one of 3,432 active items is with 7, and
+    one of 924 with 6. Of a record without dates nothing is known of months."""
+    item = item_of(counts=(5, *(4, 6, 5, 5) * months, *(0,) * 4 * months))
+    dated = dataclasses.replace(OWN, every="week")
+    if has_trial:
+        assert trial_of(item, dated, Prior(NONE)).periods == len(item.counts)
+        return
+    with pytest.raises(Refused, match="hardly asked for any longer"):
+        trial_of(item, dated, Prior(NONE))
+    assert trial_of(item, OWN, Prior(NONE)).periods == len(item.counts)

@@ -20,7 +20,7 @@ from crnplan.plan.choice import allowed_by
 from crnplan.plan.one import plan_asked, plan_one
 from crnplan.plan.how import Settings
 from crnplan.plan.question import question_of
-from crnplan.read.item import NEW, NO_DEMAND, Item
+from crnplan.read.item import ENDED, NEW, NO_DEMAND, Item
 from crnplan.remarks import Remark
 from crnplan.theory.lattice import NoTheory
 from crnplan.words import sentence
@@ -143,10 +143,10 @@ def test_a_new_item_of_a_class(program: Path) -> None:
 
 
 def test_only_items_with_a_past_are_tried() -> None:
-    """New items and those without demand say nothing of the past of others."""
+    """New items, those without demand and those that have ended say nothing of the past of others."""
     items = [
         item_of(place, name=str(place), fill=Fraction(9, 10), past=past)
-        for place, past in enumerate(("", NEW, NO_DEMAND))
+        for place, past in enumerate(("", NEW, NO_DEMAND, *ENDED))
     ]
 
     class Read:

@@ -21,7 +21,8 @@ from crnplan.plan.answer import BOUNDED, CHEAPER, RUN, SAME, UNDECIDED, Answer, 
 from crnplan.plan.choice import allowed_by, choice_of
 from crnplan.plan.correction import trial_of
 from crnplan.demand.learning import Prior
-from crnplan.plan.one import of_month, plan_asked, plan_one, verdict_of
+from crnplan.plan.item import depth_of
+from crnplan.plan.one import plan_asked, plan_one, verdict_of
 from crnplan.plan.yearly import Planned, Year
 from crnplan.plan.how import NONE, without_season
 from crnplan.plan.question import Question, question_of
@@ -166,6 +167,25 @@ def test_own_season() -> None:
     assert facts["most"] == max(index.values) and facts["least"] == min(index.values)
 
 
+def test_classes_whose_items_differ() -> None:
+    """Of two years, an item whose class is seen to differ has its own season, and one of another class that of its class.
+    What was learned is the same if it is read again."""
+    items = list[Item]()
+    for place in range(24):
+        group, turn = ("mixed", "warm")[place % 2], 26 * (place % 4 == 2)
+        counts = RANDOM.poisson(200 * FACTORS[turn : turn + 104]).tolist()
+        items.append(seasonal(counts=tuple(counts), group=group))
+    seasons = Seasons.of("week", items)
+    assert [*seasons.classes] == ["warm"] and [*seasons.own] == ["mixed"]
+    peaks = list[int]()
+    for item in items:
+        index = seasons.of_item(item)
+        assert index and seasons.is_own(item, index) is (item.group == "mixed")
+        peaks.append(index.values.index(max(index.values)))
+    assert peaks == [3, 3, 9, 3] * 6
+    assert Seasons.parse(json.loads(json.dumps(dataclasses.asdict(seasons)))) == seasons
+
+
 def stepped(marked: Sequence[int], lift: int = 1, **changed: Any) -> list[Item]:
     """Returns a class of items with the same demand in all weeks of a month, but for a lift in some weeks."""
     items = list[Item]()
@@ -291,14 +311,12 @@ def test_year(program: Path) -> None:
     assert (answer.verdict, answer.source) == (CHEAPER, "theory")
     assert answer.law.mean == pytest.approx(float(question.all_year.mean))
     assert answer.remarks[0].code == "season planned"
-    month = of_month(question, answer, str(program))
-    assert month.chosen == question.figures(best[0])
-    assert month == dataclasses.replace(
-        plan_one(question, str(program)), calendar=answer.calendar
-    )
+    depth = depth_of(question, answer, str(program))
+    assert depth.whole is answer and depth.answer.chosen == question.figures(best[0])
+    assert depth.answer == plan_one(question, str(program))
     without = question_of(seasonal(group=""), alone(every="week", seasons=SEASONS))
     plain = plan_one(without, str(program))
-    assert plain.calendar == () and of_month(without, plain, "") is plain
+    assert plain.calendar == () and depth_of(without, plain, "").answer is plain
     assert plain.month(FIRST) is None
 
 

@@ -9,6 +9,7 @@ from collections.abc import Sequence
 from dataclasses import replace
 from fractions import Fraction
 from pathlib import Path
+from typing import Any
 
 import pandas as pd
 import pytest
@@ -16,10 +17,12 @@ import pytest
 import crnplan as crn
 from crnplan.store.files import MARKER
 from crnplan.plan.answer import IDLE, Answer
-from crnplan.plan.catalogue import ANSWERS, PLANNED
+from crnplan.plan.catalogue import ANSWERS, PLANNED, planned_folder
 from crnplan.read.catalogue_reading import READ
 from crnplan.read.item import NO_DEMAND
+from crnplan.read.items import Words
 from crnplan.remarks import Remark
+from crnplan.show.today_tables import OrderDays, orders_today
 from crnplan.store.stored import Store
 from planner.tests.conftest import Command
 from planner.tests.show.made_catalogue import made_folder, made_pair
@@ -121,6 +124,7 @@ def test_placed_orders_are_on_order(
         assert len(table) or name == "suppliers"
         for other in (parts, alone):
             pd.testing.assert_frame_equal(other.tables[name].frame, table)
+    assert len(whole.tables) == len({*whole.tables})
     assert parts.headline == alone.headline == whole.headline
     assert all(orders.today.has_orders for orders in (whole, parts, alone))
     assert not plan.orders_today(stock, date=FRIDAY).today.has_orders
@@ -314,3 +318,25 @@ def test_status_of_tables_that_say_nothing(
                 assert answer.status == 0
             words += " --anyway"
             assert crnplan("today", folder, *words.split()).status == 0
+
+
+def test_days_of_one_plan(
+    folder: Path, stock: pd.DataFrame, on_order: pd.DataFrame
+) -> None:
+    """A plan that is read once says on each day, and of each table, what one says that is read anew."""
+    due = stock.item[:6].drop_duplicates()
+    changed = pd.DataFrame({"item": due, "quantity": range(len(due))})
+    less = stock.assign(stock=stock.stock // 2)
+    asked: list[tuple[dict[str, Any], str]] = [
+        ({"stock": stock}, "2026-11-27"),
+        ({"stock": stock, "on_order": on_order}, "2026-11-27"),
+        ({"stock": stock, "quantities": changed}, "2026-11-27"),
+        ({"stock": less, "on_order": on_order, "quantities": changed}, "2026-12-04"),
+        ({"stock": stock}, "2026-11-27"),
+    ]
+    with planned_folder(folder) as planned:
+        days_of_plan = OrderDays(planned, Words()).read()
+    for tables, day in asked:
+        orders = days_of_plan.orders(tables, day)
+        assert orders == orders_today(folder, tables, Words(), day)
+        assert orders.text == orders_today(folder, tables, Words(), day).text

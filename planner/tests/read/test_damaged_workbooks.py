@@ -34,7 +34,7 @@ def test_a_damaged_sheet(old: str, new: str, said: str, tmp_path: Path) -> None:
 
 def test_most_cells_of_a_row(path: Path) -> None:
     """A row with more cells than Excel can have ends the reading before it is whole in memory."""
-    with_rows(path, f"<row>{16_384 * '<c/>'}</row>")
+    with_rows(path, f"<row>{16_383 * '<c/>'}<c><v>1</v></c></row>")
     assert [*map(len, cells_of(path))] == [16_384]
     with_rows(path, f"<row>{16_385 * '<c/>'}</row>")
     said = "book.xlsx:1: the row has more than 16,384 cells"
@@ -77,23 +77,11 @@ def test_a_workbook_that_unpacks_to_too_much(
     """A workbook is refused by what it unpacks to, before that is done."""
     path = written(tmp_path / "book.xlsx", [[number] for number in range(1000)])
     size = sum(info.file_size for info in zipfile.ZipFile(path).infolist())
-    said = "its parts unpack to .* bytes, more than 5,000; export the table as CSV"
+    said = "unpacks? to .* bytes, more than 500; export the table as CSV"
     for limit, most in (("MOST_BYTES", size), ("MOST_PART_BYTES", 10_000)):
         with monkeypatch.context() as patch:
             patch.setattr(workbooks, limit, most)
             assert len(cells_of(path)) == 1000
-            patch.setattr(workbooks, limit, 5_000)
+            patch.setattr(workbooks, limit, 500)
             with pytest.raises(Refused, match=said):
                 cells_of(path)
-
-
-def test_a_bomb(path: Path) -> None:
-    """A workbook of a megabyte whose texts unpack to 260 MB is refused before they are."""
-    with zipfile.ZipFile(path, "a", zipfile.ZIP_DEFLATED, compresslevel=1) as archive:
-        with archive.open("xl/texts.xml", "w", force_zip64=True) as part:
-            for _ in range(260):
-                part.write(b"<si><t>a</t></si>" * 58_824)
-    assert path.stat().st_size < 3_000_000
-    said = "its parts unpack to 260,00.* bytes, more than 250,000,000; export the table as CSV"
-    with pytest.raises(Refused, match=said):
-        read_history(path, demand="demand")

@@ -8,7 +8,7 @@ import pytest
 
 from crnplan.errors import RefusedFaults
 from crnplan.read import read_history
-from crnplan.read.encodings import MOST_NAMED, likely_encodings
+from crnplan.read.encodings import MOST_NAMED, is_mixed, likely_encodings
 from planner.tests.read.catalogues import (
     WEEKS,
     cases_of,
@@ -86,3 +86,11 @@ def test_half_a_letter_of_utf_16_far_down(tmp_path: Path) -> None:
     said = "demand.csv:40002:1: the byte 0x00 is not utf-16; say another encoding"
     with pytest.raises(RefusedFaults, match=said):
         read_text(tmp_path, text.encode("utf-16", "surrogatepass"))
+
+
+def test_words_of_two_alphabets_are_of_no_language() -> None:
+    """German read as Arabic has letters of both in a word. True texts have few such words."""
+    german, russian = "Würth Großhandel, Bügelsäge, Dübel", "Болт, гайка М8, USBкабель"
+    assert is_mixed(german.encode("cp1252").decode("cp1256"))
+    assert not is_mixed(german) and not is_mixed("Φίλτρο, Φλάντζα")
+    assert not is_mixed(f"{russian}, Подшипник, Шайба, Ключ")

@@ -80,7 +80,10 @@ def test_fits_and_checks_leave_it_out(name: str) -> None:
 
 
 REFUSED: dict[str, tuple[Callable[[], object], str]] = {
-    "lead times": (lambda: crn.fit_lead([1, NAN]), "lead time: entry 2: nan is not"),
+    "lead times": (
+        lambda: crn.fit_lead([1, NAN]),
+        "leads: entry 2: nan is not a whole number; leave it out",
+    ),
     "law": (lambda: crn.Law.of_numbers([1, NAN]), "entry 2: nan is not a whole"),
     "scenario": (
         lambda: crn.Scenario.of([1, NAN], [1], **COSTS),

@@ -69,6 +69,14 @@ def test_rows_with_faults_are_rejected(first: str, last: str, why: str) -> None:
     assert wrong.counts["files"]["out_of_stock"]["rejected"] == 1
 
 
+def test_item_of_a_row_without_a_master() -> None:
+    """An item that stands in this table alone is named with its row."""
+    days = "2026-03-02", "2026-03-03"
+    (reject,) = read(("A", *days), ("C", *days)).rejects.itertuples()
+    where = reject.file, reject.line, reject.item
+    assert where == ("out_of_stock", 3, "C") and "no master" in reject.reason
+
+
 def test_classes_are_by_the_demand_that_is_known() -> None:
     """The mean demand by which A, B and C are cut is that of the known periods, whatever was sold in the others: nine
     items of 77 in 26 weeks, and one of 1,287 in 13 and 39 in the other 13, which is 66% of all value, or 10%. An item is

@@ -147,7 +147,7 @@ def test_a_history_of_one_item(words: dict[str, str]) -> None:
     assert "periods without a demand: 3 of 26" in history.notes[-1].message
     assert crn.fit_demand(history) == crn.fit_demand(known)
     nothing = dataclasses.replace(history, unknown=(*range(26),))
-    with pytest.raises(crn.Refused, match="there are 0 numbers of demand"):
+    with pytest.raises(crn.Refused, match="demand: there are 0 numbers"):
         crn.fit_demand(nothing)
     none = crn.read_history(frame, **named, empty="none")
     assert none.unknown == () and sum(none.counts) == known.sum()
@@ -169,7 +169,7 @@ def test_numbers_that_are_missing(missing: Any) -> None:
     assert crn.fit_demand(pd.Series(rows, dtype="Int64")) == crn.fit_demand(counts)
     checks = crn.check_history(rows)
     assert checks.periods == 28 and checks.notes[0].facts == {"count": 1, "periods": 29}
-    with pytest.raises(crn.Refused, match="lead time: entry 2"):
+    with pytest.raises(crn.Refused, match="leads: entry 2"):
         crn.fit_lead([2, missing])
 
 

@@ -94,8 +94,8 @@ def test_days_of_both_calendars(is_1904: bool, tmp_path: Path) -> None:
 
 
 def test_other_cells(tmp_path: Path) -> None:
-    """Texts stand as they are, also rich ones and those in the cell; a truth and an error are texts; an empty cell has
-    none."""
+    """Texts stand as they are, also rich ones and those in the cell; a truth and an error are texts; a row ends with its
+    last filled cell."""
     path = tmp_path / "book.xlsx"
     with xlsxwriter.Workbook(path) as book:
         sheet, bold = book.add_worksheet(), book.add_format({"bold": True})
@@ -105,14 +105,14 @@ def test_other_cells(tmp_path: Path) -> None:
         sheet.write_formula(1, 2, '=""', None, "")
         sheet.write_blank(1, 3, None, bold)
     first = ["0017", "", "TRUE", "FALSE", " x "]
-    assert cells_of(path) == [first, ["big bolt", "#DIV/0!", "", ""]]
+    assert cells_of(path) == [first, ["big bolt", "#DIV/0!"]]
     with_rows(
         path,
         '<row><c><v>5</v></c><c t="inlineStr"><is><t>in it</t></is></c>'
         '<c t="d"><v>2025-01-06T12:30:00</v></c><c t="d"><v>2025-01-06</v></c>'
         '<c t="d"><v>12:30:00</v></c><c><v>?</v></c><c><v>NaN</v></c><c t="inlineStr"/></row>',
     )
-    wanted = ["5", "in it", "2025-01-06", "2025-01-06", "12:30:00", "?", "NaN", ""]
+    wanted = ["5", "in it", "2025-01-06", "2025-01-06", "12:30:00", "?", "NaN"]
     assert cells_of(path) == [wanted]
 
 
@@ -247,6 +247,51 @@ def test_sheets_of_one_workbook(tmp_path: Path) -> None:
     with pytest.raises(RefusedFaults) as fault:
         read_lead_times(leads, lead="lead")
     assert [(it.line, it.column) for it in fault.value.faults] == [(4, 1)]
+
+
+NAMED = [
+    ("book.xlsx", "c"),
+    ("a!b.xlsx", "c!d"),
+    ("a!b.xlsx", "c.xlsx!d"),
+    ("a.xlsx!b.xlsx", "!c!"),
+    ("a.xlsx!b/c.xlsx", "d"),
+    ("a!b/c!d.XLSM", "e"),
+]
+
+
+@pytest.mark.parametrize("file, sheet", NAMED)
+def test_a_name_with_the_sign_before_a_sheet(
+    file: str, sheet: str, tmp_path: Path
+) -> None:
+    """A file, its folder and its sheet may have `!` in their names: a name is split where a file is there."""
+    path = tmp_path / file
+    path.parent.mkdir(exist_ok=True)
+    with xlsxwriter.Workbook(path) as book:
+        for name, count in ((sheet, 3), ("other", 5)):
+            book.add_worksheet(name).write_column(0, 0, ["demand", count, 2])
+    assert read_history(f"{path}!{sheet}", demand="demand").counts == (3, 2)
+    assert read_history(f"{path}!other", demand="demand").counts == (5, 2)
+    with pytest.raises(Refused, match="which sheet is meant is not clear"):
+        read_history(path, demand="demand")
+    path.unlink()
+    with pytest.raises(Refused) as why:
+        read_history(f"{path}!{sheet}", demand="demand")
+    assert "there is no such file; looked for: " in str(why.value)
+    assert str(path) in str(why.value).partition("looked for: ")[2]
+
+
+def test_all_files_that_a_name_may_mean_are_looked_for(tmp_path: Path) -> None:
+    """The longest name of a file is looked for first, and the text says of all."""
+    with pytest.raises(Refused) as why:
+        read_history(f"{tmp_path}/a.xlsx!b.xlsm!c", demand="demand")
+    said = f"looked for: {tmp_path}/a.xlsx!b.xlsm, {tmp_path}/a.xlsx; check"
+    assert said in str(why.value)
+    written(tmp_path / "a.xlsx", [["demand"], [3]])
+    with pytest.raises(Refused, match="there is no sheet 'b.xlsm!c'"):
+        read_history(f"{tmp_path}/a.xlsx!b.xlsm!c", demand="demand")
+    written(tmp_path / "a.xlsx!b.xlsm", [["demand"], [3]])
+    with pytest.raises(Refused, match="there is no sheet 'c'"):
+        read_history(f"{tmp_path}/a.xlsx!b.xlsm!c", demand="demand")
 
 
 def test_hidden_rows_and_merged_cells(tmp_path: Path) -> None:

@@ -143,7 +143,10 @@ class Page(HTMLParser):
         }
         for address in self.addresses:
             assert address == "data:," or address.startswith("items/")
-        assert not re.search(r"https?:|//[a-z]|url\(|@import", self.source)
+        source = self.source
+        for allowed in filter(None, self.policy.values()):
+            source = source.replace(allowed, "")  # A digest may have two slashes.
+        assert not re.search(r"https?:|//[a-z]|url\(|@import", source)
         assert not {
             "img",
             "iframe",

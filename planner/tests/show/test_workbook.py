@@ -228,7 +228,7 @@ def test_one_computation_of_orders(
     summary = "\n".join(str(row[0]) for row in sheet_cells(book["Summary"]))
     for text in (listed.output, page.words, summary):
         assert said in text
-        without = "without what is on order: say --on-order" in text
+        without = ", without what is on order" in text
         assert without != has_orders
     assert ("Orders of 2026-11-27" in page.words) == has_orders
     assert len(page.tables["The most urgent orders"]) == 11

@@ -195,7 +195,7 @@ def test_what_waits_for_a_process_at_the_end() -> None:
     """It is cancelled."""
     with jobs.processes(2) as workers:
         assert isinstance(workers, jobs.Processes)
-        assert [*workers.in_order(pow, [(2, 3)])] == [8]
+        assert [*workers.in_order(pow, [(2, 3)] * 2)] == [8, 8]
         for _ in range(2):  # as if both had ended by force
             workers.idle.get()
         future = workers.submit(pow, [2, 3])

@@ -47,15 +47,21 @@ def pairs(
     parameter: click.Parameter,
     words: tuple[str, ...],
 ) -> dict[str, str]:
-    """Returns texts by name, from words of the form of an option. Raises Refused for the first word of another form."""
-    texts = {}
+    """Returns texts by name, from words of the form of an option. Raises Refused for the first word of another form, or
+    that says something else of a name than one before."""
+    texts = dict[str, str]()
     for word in words:
         pair = re.fullmatch(option.form, word)
         if pair is None:
             raise crn.Refused(
                 f"{option.flag} {word!r} is not {option.metavar}, as {option.example}"
             )
-        texts[(pair[1] or "").strip()] = pair[2].strip()
+        name, text = (pair[1] or "").strip(), pair[2].strip()
+        if texts.setdefault(name, text) != text:
+            raise crn.Refused(
+                f"{option.flag} {word!r}: {texts[name]!r} is said of the same",
+                "leave one",
+            )
     return texts
 
 

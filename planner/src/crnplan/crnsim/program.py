@@ -14,6 +14,7 @@ from dataclasses import dataclass
 from pathlib import Path
 from typing import IO
 
+from ..arguments import judged
 from ..errors import ProgramError, ProgramFailed, argument
 from ..formats import STATUSES, status_of
 from ..store.interrupts import interrupted_later
@@ -90,7 +91,8 @@ def build_of_package() -> Build | None:
     return Build(**tomllib.loads(BUILT.read_text("utf-8")))
 
 
-def find_program(named: str | Path | None = None) -> Path:
+@judged("common")
+def find_program(program: str | Path | None = None) -> Path:
     """Returns the absolute path of the program crnsim.
 
     It is the first of these that there is: the named one; that of the variable CRNSIM; the one inside an installed package;
@@ -98,7 +100,7 @@ def find_program(named: str | Path | None = None) -> Path:
 
     Parameters
     ----------
-    named : str or Path, optional
+    program : str or Path, optional
         A path, or a plain name that is searched on PATH.
 
     Returns
@@ -116,7 +118,7 @@ def find_program(named: str | Path | None = None) -> Path:
     >>> crn.find_program().name
     'crnsim'
     """
-    return program_and_reason(named)[0]
+    return program_and_reason(program)[0]
 
 
 def program_for(named: str | Path | None, cluster: object) -> str:

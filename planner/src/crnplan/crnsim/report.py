@@ -26,6 +26,7 @@ from pathlib import Path
 from typing import TYPE_CHECKING, Any
 
 from .. import formats
+from ..arguments import judged
 from ..columns import columns_of
 from ..toml.documents import shown
 from ..toml.scenarios import checked_tree, name_faults, plain_text
@@ -231,6 +232,7 @@ class Report(Result):
         """Returns the frame with rounded floats in place of fractions, and nan in place of None."""
         return self.frame.astype({name: float for name in formats.FRACTIONS})
 
+    @judged("plan")
     def decide(self, level: float = 0.95) -> Decision:
         """Returns all policies by rank, the cheapest first, with paired-t intervals and verdicts.
 

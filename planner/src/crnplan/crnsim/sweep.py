@@ -94,7 +94,7 @@ def sweep(
         Reorder points, in items, from 0 to 1,000,000.
     S : iterable of int
         Order-up-to levels, in items, from 0 to 1,000,000. Pairs with s above S are left out.
-    jobs : int, at least 1, optional
+    jobs : int, from 1 to 1,024, optional
         Runs at a time; by default one for each core. The report is the same.
     out : str or Path, optional
         A folder that keeps each report. The same sweep begun again runs only what is not there.

@@ -439,7 +439,7 @@ def exchange_curve(
     correct : bool, default False
         Has beside each named point what it met on the past: on quarters of the records of up to 1,000 items, each planned
         from the others. A `fill` is then met there, by the price that `plan` finds for items that are planned together.
-    jobs : int, at least 1, optional
+    jobs : int, from 1 to 1,024, optional
         How many processes work; by default one for each processor. The bytes are the same.
     cluster : str or distributed.Client, optional
         The address of a Dask scheduler, or a client, whose workers work in place of processes.

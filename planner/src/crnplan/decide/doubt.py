@@ -347,7 +347,7 @@ def doubt(
     from ..theory.many_laws import figures_of_laws
 
     candidates = _candidates(scenario, policies)
-    demand = allowed_laws(history, times=times, box=box, seed=seed)
+    demand = allowed_laws(history, times=times, box=box, seed=seed, name="history")
     lead, lead_laws = None, [scenario.lead] * len(demand.laws)
     if leads is not None:
         lead = allowed_leads(leads, times=times, seed=seed)

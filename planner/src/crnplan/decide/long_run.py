@@ -16,6 +16,7 @@ from functools import cached_property
 from pathlib import Path
 
 from .. import formats
+from ..arguments import judged
 from ..columns import columns_of
 from ..crnsim.report import Row, report_of
 from ..errors import Refused, argument
@@ -82,6 +83,8 @@ class LongRunReport(Result):
         known : LongRun, optional
             Its theory, if it is known.
 
+        :meta private:
+
         Raises
         ------
         NoTheory
@@ -140,6 +143,7 @@ class LongRunReport(Result):
             rows.append({"row": row, "estimate": estimate, "variance": variance})
         return DataTable.of(COLUMNS, rows, index="policy")
 
+    @judged("plan")
     def decide(self, level: float = 0.95) -> Decision:
         """Returns all policies, the cheapest first, with paired-t intervals of a period, verdicts, and theory's figures beside.
 

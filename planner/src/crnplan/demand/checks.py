@@ -7,7 +7,8 @@ from typing import TYPE_CHECKING
 
 import numpy as np
 
-from ..money import Number, whole
+from ..arguments import judged
+from ..money import Number
 from ..read.observed import History, Observed
 from ..read.quiet import chance_of_quiet, quiet_periods
 from ..remarks import Remark, Value
@@ -89,8 +90,9 @@ class Checks:
         return "\n".join([*lines, ""])
 
 
+@judged("fit", "settings.history")
 def check_history(
-    observed: Observed | Iterable[Number], *, season: int | None = None
+    demand: Observed | Iterable[Number], *, season: int | None = None
 ) -> Checks:
     """Checks a history of demand, or any whole numbers from 0, one for each period in their order.
 
@@ -100,7 +102,7 @@ def check_history(
 
     Parameters
     ----------
-    observed : History or iterable of int
+    demand : History or iterable of int
         The demand of each period, in items. Unknown ones (None, NaN) are left out, and are no neighbours of others.
     season : int, optional
         The periods of another season, at least 2. Without dates there is none unless it is given.
@@ -120,12 +122,10 @@ def check_history(
     >>> crn.check_history([number // 4 for number in range(40)]).warned
     ('autocorrelation', 'trend', 'shift')
     """
-    known = placed_numbers(observed, "demand", may_lack=True)
+    known = placed_numbers(demand, "demand", may_lack=True)
     numbers, places = [*known.values()], [*known]
-    if season is not None:
-        season = whole(season, "season")
-    if isinstance(observed, History):
-        every, first = observed.every, observed.first
+    if isinstance(demand, History):
+        every, first = demand.every, demand.first
         return _checked(numbers, every, first, season, True, places)
     checks = _checked(numbers, None, 1, season, True, places)
     lacking = places[-1] + 1 - len(places)

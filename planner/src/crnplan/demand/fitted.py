@@ -166,6 +166,8 @@ class FittedLaw(Law):
             What is known of the fit.
         box : int, default 1
             The items of a box.
+
+        :meta private:
         """
         return cls(law.values, law.weights, family, diagnostics, box)
 
@@ -176,6 +178,8 @@ class FittedLaw(Law):
         ----------
         law : Law
             Its values and weights are taken.
+
+        :meta private:
         """
         return self.made(law, self.family, self.diagnostics, self.box)
 
@@ -244,7 +248,7 @@ def numbers_of(
             map(observed.places.__getitem__, known)
             if isinstance(observed, Observed)
             else (
-                Fault(f"column {what!r}: entry {place + 1}, {number},")
+                Fault(f"{what}: entry {place + 1}, {number},")
                 for place, number in known.items()
             )
         )
@@ -280,7 +284,7 @@ def placed_numbers(
         }
     if not 1 <= len(known) <= MOST_WEIGHT:
         raise Refused(
-            f"there are {len(known):,} numbers of {what}; give 1 to {MOST_WEIGHT:,}"
+            f"{what}: there are {len(known):,} numbers; give 1 to {MOST_WEIGHT:,}"
         )
     return known
 
@@ -291,7 +295,7 @@ def _dense(observed: Any, what: str) -> Iterable[Any]:
     if isinstance(observed, Mapping) or not hasattr(observed, "__iter__"):
         raise Refused(
             f"{what}: {type(observed).__name__} is no list of whole numbers",
-            "give one number for each",
+            "give a list of them",
         )
     if kind not in ("PeriodIndex", "DatetimeIndex"):
         is_whole = isinstance(observed, np.ndarray) and observed.dtype.kind in "iu"

@@ -62,9 +62,11 @@ def below_0(number: int, most: int) -> str:
     return "is below 0; correct it" if number < 0 else ""
 
 
-def boxes_of(observed: Observed | Iterable[Number], box: int) -> list[int]:
-    """Returns the demand that is known in boxes of `box` items, rounded up. Raises RefusedFaults with the place of each number that is
-    too large for a scenario or below 0."""
+def boxes_of(
+    observed: Observed | Iterable[Number], box: int, name: str = "demand"
+) -> list[int]:
+    """Returns the demand that is known in boxes of `box` items, rounded up. Raises RefusedFaults with the name and the place
+    of each number that is too large for a scenario or below 0."""
     if box < 1:
         raise Refused(f"{box} is no number of items in a box; it is at least 1")
 
@@ -76,7 +78,7 @@ def boxes_of(observed: Observed | Iterable[Number], box: int) -> list[int]:
             f"{argument('box', str(-(-most // MOST_DEMAND)))} or more"
         )
 
-    numbers = numbers_of(observed, "demand", wrong, may_lack=True)
+    numbers = numbers_of(observed, name, wrong, may_lack=True)
     return [-(-number // box) for number in numbers]
 
 
@@ -200,7 +202,7 @@ def mixed_law(
 
 @judged("fit", "history")
 def fit_demand(
-    observed: Observed | Iterable[Number],
+    demand: Observed | Iterable[Number],
     *,
     method: str = "auto",
     box: int = 1,
@@ -211,7 +213,7 @@ def fit_demand(
 
     Parameters
     ----------
-    observed : History or iterable of int
+    demand : History or iterable of int
         The demand of each period, in items. One that is None or NaN is not known, and left out, as are the unknown periods
         of a history.
     method : str, default "auto"
@@ -264,12 +266,12 @@ def fit_demand(
             raise Refused(
                 f"a law is either borrowed or fitted by the method {method!r}; leave one out"
             )
-        return law_of(borrow, observed, item_class, box=box)
+        return law_of(borrow, demand, item_class, box=box)
     if method not in METHODS and method not in FAMILIES:
         raise Refused(
             f"there is no method {method!r} to fit demand; say {', '.join(METHODS[:-1])} or {METHODS[-1]}"
         )
-    boxes = boxes_of(observed, box)
+    boxes = boxes_of(demand, box)
     if method != EMPIRICAL:
         return family_law(boxes, method, box)
     seen = Law.of_numbers(boxes)
@@ -285,7 +287,7 @@ def stated_law(law: Law, counts: Sequence[int], box: int) -> FittedLaw:
     return FittedLaw.made(Law.of(weights), STATED, Diagnostics(seen, STATED), box)
 
 
-def leads_of(observed: Observed | Iterable[Number]) -> list[int]:
+def leads_of(leads: Observed | Iterable[Number]) -> list[int]:
     """Returns lead times in periods. Raises RefusedFaults with the place of each that is not from 1 to 32."""
     above = f"is above {MOST_LEAD}; take longer periods (weeks for days, months for weeks), for demands too"
     below = "is below 1; write 1 if the order is there for the next period's demand"
@@ -295,7 +297,7 @@ def leads_of(observed: Observed | Iterable[Number]) -> list[int]:
             return above
         return below if number < 1 else ""
 
-    return numbers_of(observed, "lead time", wrong)
+    return numbers_of(leads, "leads", wrong)
 
 
 def sides_of(counts: Floats) -> Floats:
@@ -314,14 +316,13 @@ def sides_of(counts: Floats) -> Floats:
     return scaled(likelihoods)
 
 
-def fit_lead(
-    observed: Observed | Iterable[Number], *, method: str = "auto"
-) -> FittedLaw:
+@judged("fit")
+def fit_lead(leads: Observed | Iterable[Number], *, method: str = "auto") -> FittedLaw:
     """Fits the law of lead times to observed ones.
 
     Parameters
     ----------
-    observed : LeadTimes or iterable of int
+    leads : LeadTimes or iterable of int
         Whole numbers of periods, from 1 to 32.
     method : {"auto", "empirical"}, default "auto"
         With `empirical` each lead time counts as often as it was seen. `auto` moves a part of 2 to 19 observed ones to the
@@ -349,7 +350,7 @@ def fit_lead(
         raise Refused(
             f"there is no method {method!r} to fit lead times; say {' or '.join(LEAD_METHODS)}"
         )
-    numbers = leads_of(observed)
+    numbers = leads_of(leads)
     seen = Law.of_numbers(numbers)
     if method == EMPIRICAL or not LEAST_LEADS <= len(numbers) < FEW:
         return FittedLaw.made(seen, EMPIRICAL, Diagnostics(seen, method, side=0.0))

@@ -5,7 +5,8 @@ The index of a month is the mean of the ratios of its demand to that of its year
 Forecasting: Methods and Applications, third edition, 1998, section 3/4), over the items of a class (Withycombe,
 Forecasting with combined seasonal indices, 1989). It is shrunk by its error (Miller and Williams, Shrinkage estimators
 of time series seasonal factors and their effect on forecasting accuracy, 2003). Items of a class move together, so its
-error is the one between years, not between items.
+error is the one between years, not between items. Some may differ from it: the more of a class clearly do, the less
+each of them has to (Benjamini and Hochberg, Controlling the false discovery rate, 1995).
 
 The test asks whether years are alike. What differs from one year to the next has independent Fourier coefficients, each
 about normal, whatever its spectrum (Brillinger, Time Series: Data Analysis and Theory, 1981, section 4.4). So the mean
@@ -32,6 +33,8 @@ FREQUENCIES = 2  # once and twice a year
 # an item of its own.
 FALSE_ALARMS, OWN_ALARMS = 0.01, 0.001
 OWN_YEARS = 3
+# Of the items of a class that are seen to differ from it, at most such a share does not, in the mean.
+FALSE_OWN = 0.05
 OWN_ASKED = 0.5  # Items with fewer periods with demand have no season of their own: it would be wild.
 LEAST_ITEMS = 10  # of a class: the study has no fewer
 # The least root mean square of a season that is planned: that of a sine from 0.9 to 1.1. One from 0.85 to 1.15 costs at
@@ -175,14 +178,40 @@ def class_index(items: Sequence[Years]) -> Index | None:
     return index if is_seen else None
 
 
-def own_index(item: Years, of_class: Index | None) -> Index | None:
-    """Returns the season of an item: its own if it has demand in half of the periods of each of three years or more, and
-    clearly another season than its class; else that of its class."""
-    if len(item.asked) < OWN_YEARS or item.asked.min() < OWN_ASKED:
+def has_own(item: Years) -> bool:
+    """Returns whether the record of an item says enough of a season of its own."""
+    return len(item.asked) >= YEARS and bool(item.asked.min() >= OWN_ASKED)
+
+
+def own_alarms(items: Sequence[Years]) -> float:
+    """Returns the p value up to which the items of a class are seen to have a season of their own, by how they differ from
+    the means of the class in each year; 0 if none does, or if fewer than 10 items can be tested.
+    """
+    means = pooled(items)
+    if len(means) < YEARS:
+        return 0.0
+    chances = list[float]()
+    for item in filter(has_own, items):
+        years = min(len(item.asked), len(means))
+        chances.append(chance_of(item.ratios[:years] - means[:years]))
+    if len(chances) < LEAST_ITEMS:
+        return 0.0
+    rising = np.sort(chances)
+    bounds = FALSE_OWN * np.arange(1, len(rising) + 1) / len(rising)
+    return float(bounds[rising <= bounds].max(initial=0.0))
+
+
+def own_index(item: Years, of_class: Index | None, alarms: float = 0.0) -> Index | None:
+    """Returns the season of an item: its own if it has demand in half of the periods of each of two years or more, and
+    clearly another season than its class; else that of its class. Clear is a p value up to `alarms`, that of the class,
+    and from three years on up to 0.001."""
+    if len(item.asked) >= OWN_YEARS:
+        alarms = max(alarms, OWN_ALARMS)
+    if not alarms or not has_own(item):
         return of_class
     expected = np.array(of_class.values) if of_class else FLAT
     index = index_of(item.ratios, expected)
-    is_seen = index.chance <= OWN_ALARMS and differs(index, expected)
+    is_seen = index.chance <= alarms and differs(index, expected)
     return index if is_seen else of_class
 
 

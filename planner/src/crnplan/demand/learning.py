@@ -11,19 +11,26 @@ from collections import defaultdict
 from collections.abc import Iterable, Mapping, Sequence
 from dataclasses import asdict, dataclass, field
 from functools import cached_property
-from typing import Any
+from typing import TYPE_CHECKING, Any
 
 import numpy as np
 
+from ..arguments import judged
 from ..chances import Floats, Whole
-from ..errors import Fault, Refused, RefusedFaults
+from ..errors import Fault, Refused, RefusedFaults, argument
 from ..formats import MOST_DEMAND
+from ..money import exact
+from ..read.frames import is_missing, name_of
 from ..read.item import BORROW
 from ..read.observed import Observed
+from ..toml.documents import shown
 from .fitted import numbers_of
 from .fitting import below_0
 from .grid import FLAT, MOST_SIZE, chunks_of, estimated, group_of, marginal
 from .sample import Sample
+
+if TYPE_CHECKING:
+    import pandas as pd
 
 VERSION = 2  # of the text; another grid is another version
 UNITS = (
@@ -104,9 +111,15 @@ class Prior:
     seed: int = 1
     items: int = 0
     outside: int = 0
-    whole: Learned | None = None
-    classes: Mapping[str, Learned] = field(default_factory=dict)
-    packs: Learned | None = None
+    whole: Learned | None = field(default=None, repr=False)
+    classes: Mapping[str, Learned] = field(default_factory=dict, repr=False)
+    packs: Learned | None = field(default=None, repr=False)
+
+    def __eq__(self, other: object) -> bool:
+        return isinstance(other, Prior) and self.text == other.text
+
+    def __hash__(self) -> int:
+        return hash(self.text)
 
     def of_item(
         self, item_class: str | None, pack: int = 1
@@ -119,6 +132,8 @@ class Prior:
             The class of the item. If it has none that was learned, the prior is that of the catalogue.
         pack : int, default 1
             The items of a pack. An item in packs has the prior of all items in packs.
+
+        :meta private:
         """
         if pack > 1:
             return ALL, self.packs
@@ -126,6 +141,20 @@ class Prior:
         if own is None:
             return ALL, self.whole
         return str(item_class), own
+
+    @property
+    def frame(self) -> pd.DataFrame:
+        """Returns a row for each group that was learned from: its name, how many `items` it has within the grid, how many of
+        them were `sampled`, and the `gain`: the mean log10 of their Bayes factors for what was learned.
+        """
+        import pandas as pd
+
+        groups = {ALL: self.whole, **self.classes, "packs": self.packs}
+        rows = []
+        for name, its in groups.items():
+            if its:
+                rows.append([name, its.items, its.sampled, its.gain])
+        return pd.DataFrame(rows, columns=["group", "items", "sampled", "gain"])
 
     @property
     def text(self) -> str:
@@ -140,6 +169,7 @@ class Prior:
         return text + "\n"
 
     @classmethod
+    @judged("text")
     def parse(cls, text: str | bytes, name: str) -> Prior:
         """Returns what `text` gave.
 
@@ -194,7 +224,7 @@ def samples_of(items: Iterable[tuple[str, Any]]) -> list[Sample]:
         try:
             samples.append(
                 Sample.of(
-                    numbers_of(observed, f"demand of {name}", below_0, may_lack=True)
+                    numbers_of(observed, f"histories: {name}", below_0, may_lack=True)
                 )
             )
         except RefusedFaults as refused:
@@ -206,26 +236,55 @@ def samples_of(items: Iterable[tuple[str, Any]]) -> list[Sample]:
     return samples
 
 
+def by_item(values: Any, name: str) -> list[tuple[Any, Any]] | None:
+    """Returns what a mapping or a Series has by item, or a DataFrame by column; None of what has an order alone. Raises
+    Refused with the name of the argument for what is neither."""
+    items = getattr(values, "items", None)
+    if callable(items):
+        return [*items()]
+    if isinstance(values, (str, bytes)) or not isinstance(values, Iterable):
+        raise Refused(
+            f"{argument(name)}: {shown(values)} is no list",
+            "give one for each item, by item or in an order",
+        )
+    return None
+
+
+def class_of(name: Any) -> str:
+    """Returns the name of a class; empty if there is none. Raises Refused for what is no name."""
+    if is_missing(name):
+        return ""
+    if not isinstance(name, str) and exact(name) is None:
+        raise Refused(f"{argument('classes')}: {shown(name)} is no name of a class")
+    return name_of(name)
+
+
 def classes_of(
-    items: Sequence[tuple[str, Any]], histories: Histories, classes: Classes | None
+    items: Sequence[tuple[Any, Any]], are_named: bool, classes: Classes | None
 ) -> list[str]:
-    """Returns the class of each item; empty if it has none."""
+    """Returns the class of each item; empty if it has none. Items may be named, else they have an order."""
+    given = argument("classes")
     if classes is None:
         raise Refused(
-            'there are no classes to borrow from; give a class for each item, or borrow="all"'
+            f"{given}: there are none to borrow from",
+            f'give a class for each item, or {argument("borrow")}="{ALL}"',
         )
-    if isinstance(histories, Mapping) != isinstance(classes, Mapping):
+    named = by_item(classes, "classes")
+    if named is None if are_named else isinstance(classes, Mapping):
         raise Refused(
-            "give classes by item if the histories are by item, else in the order of the histories"
+            f"{given}: these are not as the histories",
+            "give classes by item if the histories are by item, else in their order",
         )
     names = [*classes]
-    if isinstance(classes, Mapping):
-        names = [classes.get(name) for name, _ in items]
+    if named and are_named:
+        known = dict(named)
+        names = [known.get(name) for name, _ in items]
     if len(names) != len(items):
         raise Refused(
-            f"there are {len(items):,} histories and {len(names):,} classes; give one for each"
+            f"{given}: there are {len(items):,} histories and {len(names):,} classes",
+            "give one for each",
         )
-    return [str(name or "") for name in names]
+    return [*map(class_of, names)]
 
 
 def learned(
@@ -251,6 +310,7 @@ def learned(
     return Learned.of(chances, len(samples), len(gains), float(gains.mean()))
 
 
+@judged("learn")
 def learn(
     histories: Histories,
     classes: Classes | None = None,
@@ -268,11 +328,12 @@ def learn(
 
     Parameters
     ----------
-    histories : mapping or iterable of histories
-        A history for each item, by item or in any order, each as in `fit_demand`, without boxes.
-    classes : mapping or iterable of str, optional
-        The class of each item, by item or in the order of the histories. An item without one learns from the whole
-        catalogue.
+    histories : mapping, DataFrame, Series or iterable of histories
+        A history for each item, by item or in any order, each as in `fit_demand`, without boxes. A DataFrame has one in each
+        column.
+    classes : mapping, Series or iterable of str, optional
+        The class of each item, by item or in the order of the histories. An item without one (None, NaN) learns from the
+        whole catalogue.
     borrow : {"all", "class", "none"}, default "all"
         From what each item learns:
 
@@ -306,20 +367,11 @@ def learn(
     >>> crn.fit_demand([0, 0, 4], borrow=prior).family
     'borrowed'
     """
-    if borrow not in BORROW:
-        raise Refused(
-            f"there is no way to borrow {borrow!r}; say {', '.join(BORROW[:-1])} or {BORROW[-1]}"
-        )
-    if least < LEAST_ON_REQUEST:
-        raise Refused(
-            f"a law cannot be learned from {least} items; the least is {LEAST_ON_REQUEST}"
-        )
     if borrow == NONE:
         return Prior(borrow, seed)
-    items = [(f"item {place}", history) for place, history in enumerate(histories, 1)]
-    if isinstance(histories, Mapping):
-        items = [*histories.items()]
-    names = classes_of(items, histories, classes) if borrow == CLASS else []
+    named = by_item(histories, "histories")
+    items = named or [(f"item {place}", it) for place, it in enumerate(histories, 1)]
+    names = classes_of(items, bool(named), classes) if borrow == CLASS else []
     samples = samples_of(items)
     within = [sample for sample in samples if not is_outside(sample)]
     outside = len(samples) - len(within)
@@ -349,5 +401,5 @@ def too_few(count: int, outside: int, least: int) -> Refused:
         left_out = f" ({outside:,} more have larger sizes than can be learned from)"
     if count >= LEAST_ON_REQUEST:
         remedy = f'ask for it with least={count}, or fit each alone with borrow="none"'
-    what = f"there are {count} items to learn from{left_out}, and it takes {least}"
+    what = f"histories: there are {count} items to learn from{left_out}, and it takes {least}"
     return Refused(what, remedy)

@@ -9,7 +9,6 @@ from typing import NamedTuple
 import numpy as np
 
 from ..chances import Whole
-from ..errors import Refused
 from ..read.dates import first_day
 from ..remarks import Remark, Value
 
@@ -82,10 +81,8 @@ def seasons_of(
     every: str | None, first: int, size: int, length: int | None
 ) -> tuple[list[Season], list[Remark]]:
     """Returns the seasons that so many periods are tested for, and remarks on those for which they are too few. One of
-    a named length takes the place of those of the calendar. Raises Refused for one of less than 2 periods.
+    a named length, of 2 periods or more, takes the place of those of the calendar.
     """
-    if length is not None and length < 2:
-        raise Refused(f"a season of {length} periods is none; say 2 or more")
     lengths, calendar = CALENDAR[every], every
     if length is not None:
         lengths, calendar = {"season": length}, None

@@ -15,7 +15,7 @@ from ..read.amounts import AMOUNTS
 from ..read.blocks import DATES
 from ..read.columns import COUNTED, ROLES
 from ..read.encodings import USUAL
-from ..read.glance import Glance, glance, likeliest, words_with
+from ..read.glance import Glance, glances, likeliest, words_with
 from ..read.items import Words
 from ..read.told import words_from
 from ..read.workbooks import sheets_of
@@ -24,7 +24,7 @@ from ..show.control_tables import controls_of
 from ..show.lateness import lateness_of
 from .front import Front, front, page
 from .kept import PLANNED, TODAY, UNKNOWN, Desk, Dropped
-from .plans import catalogue_command
+from .plans import command_on
 from .work import READING, REFUSED
 
 pages = Blueprint("files", __name__)
@@ -52,8 +52,7 @@ def read_anew(own: Front) -> None:
 def looks_at(desk: Desk, file: Dropped, words: Words) -> list[Glance]:
     """Returns what is seen of a file as a table of its kind, or of each kind if it is not known."""
     kinds = KINDS if file.kind == UNKNOWN else (file.kind,)
-    table, room = desk.table_in(file), desk.folder.room()
-    return [glance(kind, table, words, room) for kind in kinds]
+    return glances(kinds, desk.table_in(file), words, desk.folder.room())
 
 
 def found(desk: Desk, file: Dropped, **written: str) -> tuple[Dropped, str]:
@@ -98,9 +97,7 @@ def chosen_words(tree: Any, look: Glance, form: Mapping[str, str]) -> dict[str, 
 
 def said_of(desk: Desk) -> list[str]:
     """Returns why the files could not be read; nothing if they were, or were not tried."""
-    state = desk.state
-    is_refused = state.begun and state.begun.kind == READING and state.ended == REFUSED
-    return state.said if is_refused else []
+    return desk.state.said if desk.state.has_ended(READING, REFUSED) else []
 
 
 def result_of(catalogue: Catalogue) -> dict[str, Any]:
@@ -154,7 +151,7 @@ def files() -> str:
     desk, tree = own.desk, own.desk.tree
     said, command = said_of(desk), ""
     try:
-        command = catalogue_command(desk, check=True)
+        command = command_on(desk, "catalogue", check=True)
     except Refused as why:
         said = [str(why)]
     kinds = UNKNOWN, *KINDS

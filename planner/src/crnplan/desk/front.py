@@ -11,21 +11,27 @@ from typing import Any, TypeVar, cast
 
 from flask import Response, current_app, request, send_from_directory
 
-from ..errors import CrnplanError, Refused, argument
-from ..plan.catalogue import ANSWERS, PlannedFolder, planned_folder
+from ..errors import CrnplanError, Refused, argument, spelt
+from ..plan.catalogue import PlannedFolder, planned_folder
 from ..planned import Plan
 from ..read.catalogue_reading import CATALOGUE
 from ..show.page import rendered
-from ..store.files import read_folder
+from ..store.files import IN_KEPT, read_folder
 from ..toml.documents import shown
 from .kept import LOOK, PLANNED, PLANS, TESTS, Begun, Desk
-from .language import ENGLISH, LANGUAGES, words_of
+from .language import ENGLISH, LANGUAGES, as_field, words_of
 from .safety import TOKEN, WHOLE_PAGE, Secret
 from .work import DONE, PLANNING, READING, Work
 
 Made = TypeVar("Made")
 FRONT = "front"  # of an application
 PAGES = "files", "settings", "plan", "result", "today", "past"
+
+
+def state_of(path: Path) -> list[tuple[str, int, int]]:
+    """Returns what changes with a plan: the stores in its folder, with the size and the time of the last change of each."""
+    stores = [(it.name, it.stat()) for it in sorted(path.glob(f"{IN_KEPT}*.sqlite"))]
+    return [(name, its.st_size, its.st_mtime_ns) for name, its in stores]
 
 
 class Front:
@@ -35,14 +41,15 @@ class Front:
         self.desk, self.secret, self.program = desk, secret, program
         self.work: Work | None = None
         self.lock = threading.RLock()
-        self.reads = threading.RLock()  # held while a plan is read
+        # Held while orders are computed or changed, and taken before the lock above.
+        self.orders = threading.RLock()
         # What pages have computed of a plan, by what it is and what it depends on, and who computes it.
         self.known: dict[str, tuple[object, Any]] = {}
         self.turns: dict[str, threading.Lock] = {}
 
     def begin(self, begun: Begun) -> None:
-        """Begins work, once no plan is read. Raises Refused if other work is under way, or if a file is missing."""
-        with self.reads, self.lock:
+        """Begins work. Raises Refused if other work is under way, or if a file is missing."""
+        with self.lock:
             if self.work:
                 raise Refused("other work is under way", "wait for its end, or stop it")
             asked = self._asked(begun)
@@ -77,15 +84,23 @@ class Front:
                 if work.ended == DONE and state.begun:
                     self._done(state, state.begun)
             self.work = None
-        if work.kind == PLANNING and work.ended == DONE:
-            self._prepare()
+        if work.ended == DONE:
+            self.prepare()
+
+    def prepare(self) -> threading.Thread:
+        """Begins to compute what the pages Result and Today have of the last plan, so that its planner need not wait."""
+        preparing = threading.Thread(target=self._prepare, daemon=True)
+        preparing.start()
+        return preparing
 
     def _prepare(self) -> None:
-        """Computes what the page Result has of the last plan, so that its planner need not wait."""
+        from .orders import shown_on
         from .results import listed
 
-        with contextlib.suppress(CrnplanError):
+        # The desk may end meanwhile.
+        with contextlib.suppress(CrnplanError, OSError), spelt(as_field):
             listed(self, "")
+            shown_on(self, str(datetime.date.today())).prepare()
 
     @staticmethod
     def _done(state: Any, begun: Begun) -> None:
@@ -105,10 +120,12 @@ class Front:
             self.begin(Begun(READING, LOOK, changed=self.desk.state.changed))
 
     def go_on(self) -> None:
-        """Goes on with the work that was under way when the desk ended."""
+        """Goes on with the work that was under way when the desk ended, or prepares the pages of the last plan."""
         state = self.desk.state
         if state.begun and not state.ended:
             self.begin(state.begun)
+        else:
+            self.prepare()
 
     def stop(self) -> None:
         """Stops the work that is under way. What it has done is kept."""
@@ -141,31 +158,42 @@ class Front:
 
     def version(self, name: str) -> object:
         """Returns what changes with a plan, by default the last one."""
-        answers = self.plan(name).path / ANSWERS
-        return answers, answers.stat().st_mtime_ns if answers.is_file() else 0
+        path = self.plan(name).path
+        return path, state_of(path)
+
+    @contextlib.contextmanager
+    def held(self, name: str) -> Iterator[Path]:
+        """Holds a plan, by default the last one: work that is begun meanwhile waits. Raises Refused if it is planned again
+        now."""
+        path = self.plan(name).path
+        with contextlib.ExitStack() as stack:
+            with self.lock:
+                begun = self.desk.state.begun
+                if self.work and begun and self.desk.path / begun.out == path:
+                    what = f"{path.name}: this plan is made again now"
+                    raise Refused(what, "wait for the end of that, or stop it")
+                stack.enter_context(read_folder(path, CATALOGUE))
+            yield path
 
     @contextlib.contextmanager
     def reading(self, name: str) -> Iterator[PlannedFolder]:
-        """Opens a plan, by default the last one, in which no work begins meanwhile. Raises Refused if it is planned again
-        now."""
-        path = self.plan(name).path
-        begun = self.desk.state.begun
-        with self.reads:
-            if self.work and begun and self.desk.path / begun.out == path:
-                what = f"{path.name}: this plan is made again now"
-                raise Refused(what, "wait for the end of that, or stop it")
-            with read_folder(path, CATALOGUE), planned_folder(path) as planned:
-                yield planned
+        """Opens a plan, as `held` does."""
+        with self.held(name) as path, planned_folder(path) as planned:
+            yield planned
 
     def once(self, what: str, of: object, make: Callable[[], Made]) -> Made:
-        """Returns what was computed of something, or computes it: the last of each kind is kept."""
+        """Returns what was computed of something, or computes it: the last of each kind is kept. Nobody waits for what is
+        known."""
+        made: Made | None = self.recalled(what, of)
+        if made is not None:
+            return made
         with self.lock:
             turn = self.turns.setdefault(what, threading.Lock())
         with turn:
-            known = self.known.get(what)
-            if known is None or known[0] != of:
-                known = self.known[what] = of, make()
-        made: Made = known[1]
+            made = self.recalled(what, of)
+            if made is None:
+                made = make()
+                self.known[what] = of, made
         return made
 
     def recalled(self, what: str, of: object) -> Any:

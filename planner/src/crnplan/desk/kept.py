@@ -23,6 +23,7 @@ from ..errors import Refused
 from ..given import words_in
 from ..plan.settings import CONFIG, read_config
 from ..read.catalogue_reading import READ
+from ..read.cells import plain_name
 from ..read.opening import copy_of
 from ..read.sources import DELIMITERS
 from ..store.files import IN_KEPT, Folder, new_bytes
@@ -37,6 +38,7 @@ PLANNED = "demand", "items", "orders", "out_of_stock", "laws"
 TODAY = "stock", "on_order"
 OVERRIDES, PLACED, QUANTITIES = "overrides.csv", "placed.csv", "quantities.csv"
 MOST_FILE = 2_000_000_000  # bytes of a file, unpacked
+MOST_NAME = 60  # letters of the name of a file in the desk
 SUFFIXES = ".csv", ".txt", ".tsv", ".gz", ".xlsx", ".xlsm"
 
 
@@ -133,6 +135,10 @@ class State:
     quantities: dict[str, int] = field(default_factory=dict)
     placed: list[Placed] = field(default_factory=list)
 
+    def has_ended(self, kind: str, ended: str) -> bool:
+        """Returns whether the last work is of a kind, and has ended so."""
+        return self.begun is not None and (self.begun.kind, self.ended) == (kind, ended)
+
     @classmethod
     def parse(cls, text: str) -> State:
         """Returns the state that a text has."""
@@ -219,8 +225,9 @@ class Desk:
             state.changed += 1
 
     def add_file(self, called: str, data: IO[bytes]) -> Dropped:
-        """Keeps a file that was dropped under a name of ours, a gzipped one unpacked. Its kind is not known yet. Raises Refused
-        for another ending, and for a file that can't be unpacked."""
+        """Keeps a file that was dropped under a name of ours, which has the words of its own, a gzipped one unpacked. Its kind is
+        not known yet. Raises Refused for another ending, and for a file that can't be unpacked.
+        """
         suffix = Path(called).suffix.lower()
         if suffix not in SUFFIXES:
             endings = ", ".join(SUFFIXES)
@@ -229,7 +236,9 @@ class Desk:
         stream = gzip.open(data) if is_packed else data
         ending = ".csv" if is_packed else suffix
         with self.changing() as state:
-            name = f"{state.next_file:04}{ending}"
+            words = plain_name(Path(called).stem).encode("ascii", "ignore").split()
+            names = [f"{state.next_file:04}", *map(bytes.decode, words)]
+            name = "-".join(filter(str.isalnum, names))[:MOST_NAME] + ending
             file = Dropped(UNKNOWN, name, called, added=now())
             self._room_of(file)
             with new_bytes(self.path / file.place, self.folder.room()) as copy:
@@ -334,5 +343,6 @@ class Desk:
 
     def overrides_table(self) -> str | None:
         """Writes what the planner has set for items, and returns the path of the table."""
-        rows = [override.row for override in self.state.overrides.values()]
+        overrides = [*self.state.overrides.values()]  # Another thread may add one.
+        rows = [override.row for override in overrides]
         return self.table(OVERRIDES, ["item", "s", "S", "override", "reason"], rows)

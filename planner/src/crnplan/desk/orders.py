@@ -3,27 +3,44 @@ from __future__ import annotations
 
 import datetime
 import io
+from collections.abc import Mapping, Sequence
+from dataclasses import replace
 from itertools import groupby
-from typing import Any
+from typing import Any, NamedTuple
 
 from flask import Blueprint, Response, redirect, request, send_file, url_for
+from werkzeug.datastructures import MultiDict
 from werkzeug.wrappers import Response as Redirect
 
 from ..errors import CrnplanError, Refused
 from ..read.observed import stated_day
 from ..read.quantities import quantity_of
 from ..read.told import words_from
-from ..show.today_tables import OrdersToday, orders_today, rows_of
+from ..show.today_tables import OrderDays, OrdersToday, rows_of
 from ..store.digests import digest_of
-from .front import command_of, front, page, whole_of
+from .front import Front, command_of, front, page, whole_of
 from .kept import PLACED, QUANTITIES, TODAY, Desk, Placed, now
 
 pages = Blueprint("orders", __name__)
-ORDERS = "orders"  # what the front keeps of them
+ORDERS, DAYS = "orders", "days"  # what the front keeps of them
 HEADING = "item", "quantity"
 BOOK = "today_orders.xlsx"
-MOST, MOST_LINES = 1_000_000, 200  # lines of all orders, and of a page
-Shown = tuple[str, dict[str, str | None], OrdersToday]
+MOST, MOST_LINES = 1_000_000, 200  # lines of all orders, and of a table of the page
+NOTHING: Mapping[str, str] = {}
+
+
+class Shown(NamedTuple):
+    """What the last plan says on a day: a sign of all that this depends on, the tables of the day, and the orders."""
+
+    sign: str
+    tables: dict[str, str | None]
+    orders: OrdersToday
+
+    def prepare(self) -> None:
+        """Computes what the page has first."""
+        self.orders.text
+        self.orders.tables["suppliers"]
+        rows_of(self.orders, self.orders.today.lines_of("")[:MOST_LINES])
 
 
 def asked_day() -> str:
@@ -32,18 +49,39 @@ def asked_day() -> str:
     return str(stated_day("date", day))
 
 
+def first_of(name: str) -> int:
+    """Returns from which line on a table of the page is asked for."""
+    return whole_of(name, 0, MOST) or 0
+
+
+def parts_of(lines: Sequence[object]) -> range:
+    """Returns the first line of each part of a table of the page."""
+    return range(0, len(lines), MOST_LINES)
+
+
 def coming(desk: Desk) -> list[Placed]:
     """Returns what was placed and counts as on order: if no file of that was dropped later."""
     files, placed = desk.files_of("on_order"), desk.state.placed
     return [it for it in placed if all(it.added >= file.added for file in files)]
 
 
-def shown_on(day: str) -> Shown:
-    """Returns what the last plan says on a day: a sign of all that this depends on, the tables of the day, and the orders.
-    No orders are changed meanwhile."""
-    own = front()
+def days_of(own: Front) -> OrderDays:
+    """Returns the last plan as it is asked for orders, which is read once."""
+    tree = own.desk.tree
+
+    def made() -> OrderDays:
+        own.known.pop(DAYS, None)  # Both would take much memory.
+        with own.reading("") as planned:
+            planned.check()
+            return OrderDays(planned, words_from(tree)).read()
+
+    return own.once(DAYS, (own.version(""), tree), made)
+
+
+def shown_on(own: Front, day: str) -> Shown:
+    """Returns what the last plan says on a day. No orders are changed meanwhile."""
     desk = own.desk
-    with own.reads:
+    with own.orders:
         state, placed = desk.state, [(it.item, it.quantity) for it in coming(desk)]
         quantities = [*state.quantities.items()] if state.day == day else []
         sign = digest_of(own.version(""), day, state.changed, placed, quantities)
@@ -56,26 +94,32 @@ def shown_on(day: str) -> Shown:
                     "placed": desk.table(PLACED, HEADING, placed),
                     "quantities": desk.table(QUANTITIES, HEADING, quantities),
                 }
-            words = words_from(desk.tree)
-            return sign, tables, orders_today(own.plan().path, tables, words, day)
+            return Shown(sign, tables, days_of(own).orders(tables, day))
 
-        shown: Shown = own.once(ORDERS, sign, made)
-        return shown
+        return own.once(ORDERS, sign, made)
 
 
 @pages.get("/today")
-def today() -> str:
+def today(refused: str = "", typed: Mapping[str, str] = NOTHING) -> str:
+    """Returns the page, perhaps with why a form was refused, and with its quantities by item."""
     desk, day = front().desk, asked_day()
+    counted, from_placed = {*coming(desk)}, first_of("placed")
+    placed = sorted(desk.state.placed, key=lambda order: order not in counted)
     facts: dict[str, Any] = {
+        "refused": refused,
+        "typed": typed,
         "day": day,
         "files": {kind: desk.files_of(kind) for kind in TODAY},
-        "coming": coming(desk),
+        "coming": counted,
+        "placed": placed[from_placed : from_placed + MOST_LINES],
+        "from_placed": from_placed,
+        "parts_placed": parts_of(placed),
     }
     try:
-        sign, tables, orders = shown_on(day)
+        sign, tables, orders = shown_on(front(), day)
     except CrnplanError as why:
         return page("today.html", said=str(why).splitlines(), **facts)
-    number, first = request.args.get("supplier", ""), whole_of("first", 0, MOST) or 0
+    number, first = request.values.get("supplier", ""), first_of("first")
     lines = orders.today.lines_of(number)
     some, plan = lines[first : first + MOST_LINES], front().plan().path
     rows = rows_of(orders, some).cells(is_shown=True)
@@ -85,7 +129,7 @@ def today() -> str:
         orders=orders,
         number=number,
         first=first,
-        parts=range(0, len(lines), MOST_LINES),
+        parts=parts_of(lines),
         forms=groupby(zip(some, rows), lambda pair: pair[0].item.supplier),
         command=command_of("today", plan, **tables, date=day, config=desk.config),
         **facts,
@@ -95,7 +139,7 @@ def today() -> str:
 @pages.get("/today/<name>")
 def file(name: str) -> Response:
     """Returns a table of the orders, or all as a workbook."""
-    *_, orders = shown_on(asked_day())
+    orders = shown_on(front(), asked_day()).orders
     if name == BOOK:
         path = front().desk.folder.room() / BOOK
         orders.to_excel(path)
@@ -110,9 +154,11 @@ def file(name: str) -> Response:
 def keep(day: str) -> OrdersToday:
     """Keeps the quantities of a form that are not those of the plan, and returns the orders. Raises Refused for what is no
     packs, and for an item of which too little is known."""
-    form, kept = request.form, front().desk.state.quantities
+    own, form = front(), request.form
+    kept = own.desk.state.quantities
     items, ticked = form.getlist("item"), form.getlist("ordered")
-    before = {it.item.name: it for it in shown_on(day)[-1].today.standings}
+    standings = shown_on(own, day).orders.today.standings
+    before = {it.item.name: it for it in standings}
     for item, text in zip(items, form.getlist("quantity")):
         line = before.get(item)
         kept[item] = 0
@@ -120,7 +166,7 @@ def keep(day: str) -> OrdersToday:
             kept[item] = quantity_of(text, item, line.item.bounds.pack if line else 1)
         if line and kept[item] == line.planned:
             del kept[item]
-    *_, orders = shown_on(day)
+    orders = shown_on(own, day).orders
     for item in {*items} & kept.keys() - {
         it.item.name for it in orders.today.standings
     }:
@@ -146,34 +192,54 @@ def place(day: str) -> None:
 
 
 def end(day: str) -> None:
-    """Ends orders that were placed: they were received, or are taken back and may be ordered anew."""
-    state, form = front().desk.state, request.form
+    """Ends orders that were placed: they were received, and what did not come stays, or are taken back and may be ordered
+    anew, or all those that a newer file of what is on order has."""
+    desk, form = front().desk, request.form
+    state, ended = desk.state, {*form.getlist("order")}
+    if form.get("way") == "filed":
+        state.placed = coming(desk)
+        return
     for order in [*state.placed]:
-        if order.key in form.getlist("order"):
-            state.placed.remove(order)
-            if form.get("way") == "back":
-                state.quantities.pop(order.item, None)
+        if order.key not in ended:
+            continue
+        place, rest = state.placed.index(order), 0
+        if form.get("way") == "back":
+            state.quantities.pop(order.item, None)
+        else:
+            came = whole_of(f"came {order.key}", 0, order.quantity)
+            rest = 0 if came is None else order.quantity - came
+        state.placed[place : place + 1] = [replace(order, quantity=rest)] * (rest > 0)
+
+
+def typed_in(form: MultiDict[str, str]) -> dict[str, str]:
+    """Returns the quantities of a form by item, 0 for one that is not ticked."""
+    pairs = zip(form.getlist("item"), form.getlist("quantity"))
+    ticked = form.getlist("ordered")
+    return {it: text if it in ticked or "alone" in form else "0" for it, text in pairs}
 
 
 WAYS = {"save": keep, "place": place, "end": end}
 
 
 @pages.post("/today/<any(save, place, end, forget):way>")
-def change(way: str) -> Redirect:
+def change(way: str) -> Redirect | tuple[str, int]:
     """Changes the orders of a day, or orders what the plan says. If they are not as the form's page has shown them, or can't
-    be as asked, all is as before."""
+    be as asked, all is as before, and what was typed is shown beside what is now."""
     own, day, form = front(), asked_day(), request.form
-    with own.reads, own.lock, own.desk.changing() as state:
-        is_change = way in WAYS
-        if is_change and form.get("sign") != shown_on(day)[0]:
-            raise Refused(
-                "the orders have changed since this page was shown",
-                "go back, and look at them again",
-            )
-        if state.day != day or not is_change:
-            state.day, state.quantities = day, {}
-        if is_change:
-            WAYS[way](day)
-        shown_on(day)
+    try:
+        with own.orders, own.lock, own.desk.changing() as state:
+            is_change = way in WAYS
+            if is_change and form.get("sign") != shown_on(own, day).sign:
+                raise Refused(
+                    "the orders have changed since this page was shown",
+                    "look at them again: nothing of the form was kept",
+                )
+            if state.day != day or not is_change:
+                state.day, state.quantities = day, {}
+            if is_change:
+                WAYS[way](day)
+            shown_on(own, day)
+    except Refused as why:
+        return today(str(why), typed_in(form)), 400
     place = url_for("orders.today", day=day, supplier=form.get("supplier") or None)
     return redirect(place, 303)

@@ -5,28 +5,26 @@ from flask import Blueprint, Response, redirect
 from werkzeug.wrappers import Response as Redirect
 
 from ..show.backtest_tables import PAGE, SUMMARY
-from .front import command_of, front, page, whole_page
+from .front import front, page, whole_page
 from .kept import LAST_TEST, PLANNED, Begun
+from .plans import command_on
 from .work import TESTING
 
 pages = Blueprint("past", __name__)
+TESTED = [kind for kind in PLANNED if kind != "laws"]
 
 
 @pages.get("/past")
 def past() -> str:
     desk = front().desk
-    summary, tables = desk.path / LAST_TEST / SUMMARY, desk.tables(PLANNED)
-    tables.pop("laws", None)
-    first = [tables.pop(kind, f"{kind}.csv") for kind in ("demand", "items")]
+    summary = desk.path / LAST_TEST / SUMMARY
     begun = desk.state.begun
     return page(
         "past.html",
         text=summary.read_text("utf-8") if summary.is_file() else "",
         test=LAST_TEST,
         is_last=begun is not None and begun.kind == TESTING,
-        command=command_of(
-            "backtest", *first, **tables, config=desk.config, out=desk.path / LAST_TEST
-        ),
+        command=command_on(desk, "backtest", TESTED, out=desk.path / LAST_TEST),
     )
 
 

@@ -1,6 +1,7 @@
 """The page on which plans are begun, watched and stopped."""
 from __future__ import annotations
 
+from collections.abc import Sequence
 from dataclasses import replace
 
 from flask import Blueprint, Response, jsonify, redirect, request
@@ -26,6 +27,7 @@ def changes_of(desk: Desk) -> list[dict[str, object]]:
                 "name": name,
                 "items": totals.planned,
                 "left": items["named"] - items["ready"],
+                "compared": totals.compared,
                 "saving": planned.currency.text(float(totals["saving"])),
                 "every": planned.every,
                 "changes": change_lines(planned),
@@ -34,18 +36,21 @@ def changes_of(desk: Desk) -> list[dict[str, object]]:
     return plans
 
 
-def catalogue_command(desk: Desk, **options: object) -> str:
-    """Returns a command on the catalogue of the desk."""
-    tables = desk.tables(PLANNED)
+def command_on(
+    desk: Desk, name: str, kinds: Sequence[str] = PLANNED, **options: object
+) -> str:
+    """Returns a command on some kinds of the files of the desk."""
+    tables = desk.tables(kinds)
     first = [tables.pop(kind, f"{kind}.csv") for kind in ("demand", "items")]
-    return command_of("catalogue", *first, **tables, config=desk.config, **options)
+    return command_of(name, *first, **tables, config=desk.config, **options)
 
 
 def asked_commands(desk: Desk, out: str, after: str) -> str:
     """Returns the commands that plan as the desk does, and compute what would change the answer."""
     overrides = desk.path / OVERRIDES
-    planning = catalogue_command(
+    planning = command_on(
         desk,
+        "catalogue",
         overrides=overrides if overrides.is_file() else None,
         after=desk.path / after if after else None,
         out=desk.path / out,
@@ -69,9 +74,7 @@ def plan() -> str:
             "plans", [*desk.state.plans, desk.state.ended], lambda: changes_of(desk)
         ),
         command=asked_commands(desk, out, begun.after if begun else ""),
-        is_stopped=desk.state.ended == STOPPED
-        and begun is not None
-        and begun.kind == PLANNING,
+        is_stopped=desk.state.has_ended(PLANNING, STOPPED),
     )
 
 

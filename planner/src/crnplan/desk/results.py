@@ -1,7 +1,9 @@
 """The page Result: what a plan saves, all its items, and what is downloaded of it."""
 from __future__ import annotations
 
+import contextlib
 import io
+import json
 import math
 import tempfile
 from collections import Counter
@@ -15,7 +17,7 @@ from flask import Blueprint, Response, request, send_file, send_from_directory
 from markupsafe import Markup
 
 from ..errors import Refused, argument
-from ..plan.catalogue import PlannedFolder
+from ..plan.catalogue import PlannedFolder, planned_folder
 from ..plan.survey import Survey
 from ..show.catalogue_page import ITEM_COLUMNS, PAGE, ItemColumn, board_facts
 from ..show.catalogue_tables import (
@@ -27,16 +29,21 @@ from ..show.catalogue_tables import (
 )
 from ..show.page import rendered
 from ..show.verdicts import VERDICTS
-from ..table import Cell, is_missing
+from ..store.digests import digest_of
+from ..store.files import IN_KEPT
+from ..table import Cell, Column, is_missing
 from ..toml.documents import shown
-from .front import Front, command_of, front, page, whole_of, whole_page
+from .front import Front, command_of, front, page, state_of, whole_of, whole_page
+from .kept import Desk
 from .language import ENGLISH, words_of
 
 pages = Blueprint("results", __name__)
 ROWS = 50  # of a page
+SUFFIXES = ".py", ".toml", ".html"  # of our own code
 WORKBOOK = "plan.xlsx"
+LIST = f"{IN_KEPT}result.json"  # what the page has of the last plan
 COLUMNS = {column.name: column for column in ITEM_COLUMNS}
-OPTIONAL = [column.name for column in ITEM_COLUMNS if column.is_optional]
+FIGURES = [column.name for column in ITEM_COLUMNS if not column.letters]
 FILTERS = "class", "verdict", "code", "supplier"
 ASKED = "plan", "words", *FILTERS, "sort", "falls"
 
@@ -55,7 +62,17 @@ class Listed(NamedTuple):
     board: Markup
     columns: Sequence[ItemColumn]
     rows: Sequence[Row]
-    choices: Mapping[str, Counter[str]]
+    choices: Mapping[str, Mapping[str, int]]
+
+    @classmethod
+    def of(cls, board: str, columns: Any, rows: Any, choices: Any) -> Listed:
+        """Returns what was kept as plain data."""
+        return cls(
+            Markup(board),
+            [ItemColumn(*parts) for parts in columns],
+            [Row(*parts) for parts in rows],
+            choices,
+        )
 
 
 def traits_of(decision: Decision) -> Mapping[str, Sequence[str]]:
@@ -66,6 +83,14 @@ def traits_of(decision: Decision) -> Mapping[str, Sequence[str]]:
         "code": [*{remark.code for remark in decision.remarks}],
         "supplier": [decision.item.supplier],
     }
+
+
+def headed(column: Column, units: Mapping[str, str]) -> ItemColumn:
+    """Returns a column of the table with its heading, which names the unit of money."""
+    own = COLUMNS[column.name]
+    if not column.unit.startswith("money"):
+        return own
+    return own._replace(heading=f"{own.title}, {units[column.name]}")
 
 
 def made_list(planned: PlannedFolder) -> Listed:
@@ -84,23 +109,53 @@ def made_list(planned: PlannedFolder) -> Listed:
     declared = {column.name: column for column in DECISION_COLUMNS}
     table = planned.table([declared[name] for name in COLUMNS], noted())
     table = replace(table, rows=[*table.rows], decimals=planned.currency.digits)
-    table = table.without_empty(OPTIONAL)
+    table = table.without_empty(FIGURES)
     _, *spelt = table.spelt(is_shown=True)
     return Listed(
         Markup(rendered("board.html", board_facts(planned, survey) | {"past": past})),
-        [COLUMNS[name] for name in table.names],
+        [headed(column, table.units) for column in table.columns],
         [Row(*parts) for parts in zip(spelt, table.rows, traits)],
         choices,
     )
 
 
+def sign_of(path: Path) -> str:
+    """Returns a sign of all that the page has of a plan: of its name and stores, and of our own code."""
+    files = sorted(Path(__file__).parents[1].rglob("*.*"))
+    code = [it.stat().st_mtime_ns for it in files if it.suffix in SUFFIXES]
+    return digest_of(path.name, state_of(path), code)
+
+
+def keep_list(desk: Desk, sign: str, found: Listed) -> None:
+    """Keeps what the page has of a plan, in place of another one."""
+    text = json.dumps([sign, *found], ensure_ascii=False)
+    with desk.lock:
+        desk.folder.write(LIST, text)
+
+
+def kept_list(desk: Desk, sign: str) -> Listed | None:
+    """Returns what is kept by a sign; None if that of another plan, or of another time, is."""
+    with contextlib.suppress(OSError, ValueError, TypeError):
+        kept, *parts = json.loads((desk.path / LIST).read_text("utf-8"))
+        return Listed.of(*parts) if kept == sign else None
+    return None
+
+
 def listed(own: Front, name: str) -> Listed:
-    """Returns what the page has of a plan, which is computed once."""
+    """Returns what the page has of a plan. It is computed once; that of the last plan is kept for when the desk is opened
+    again."""
 
     def make() -> Listed:
-        with own.reading(name) as planned:
-            planned.check()
-            return made_list(planned)
+        with own.held(name) as path:
+            sign = sign_of(path)
+            found = kept_list(own.desk, sign)
+            if found is None:
+                with planned_folder(path) as planned:
+                    planned.check()
+                    found = made_list(planned)
+                if path.name == own.desk.state.plans[-1]:
+                    keep_list(own.desk, sign, found)
+            return found
 
     return own.once("listed", own.version(name), make)
 
@@ -136,7 +191,7 @@ def chosen_rows(found: Listed, asked: Mapping[str, str]) -> list[Row]:
     names = [column.name for column in found.columns]
     sort, falls = asked["sort"], asked["falls"]
     if not sort:
-        sort, falls = "saving", "1"
+        sort, falls = ("saving", "1") if "saving" in names else (names[0], "")
     check("sort", sort, names)
     return in_order(rows, names.index(sort), bool(falls))
 
@@ -169,7 +224,7 @@ def result() -> str:
         asked=asked,
         link=link,
         verdicts=VERDICTS,
-        overrides=[one for one in state.overrides.values() if one.holds],
+        overrides=[one for one in [*state.overrides.values()] if one.holds],
         command=command_of("report", path),
     )
 

@@ -8,13 +8,18 @@ from __future__ import annotations
 import hashlib
 import hmac
 import secrets
+from collections.abc import Set
+from functools import partial
 from hmac import compare_digest
-from typing import NoReturn
+from typing import Any
 
 import werkzeug.formparser
 from flask import Flask, Request, Response, abort, request
+from waitress.channel import HTTPChannel
+from waitress.parser import HTTPRequestParser
+from werkzeug.datastructures import Headers
 from werkzeug.exceptions import RequestEntityTooLarge
-from werkzeug.wrappers import Response as AnyResponse
+from werkzeug.sansio.request import Request as Head
 
 from ..show.page import rendered
 
@@ -69,46 +74,94 @@ class BoundedRequest(Request):
     max_form_memory_size = MOST_FORM
 
 
-def refuse() -> NoReturn:
-    """Ends a request of somebody else, with nothing of the desk."""
+def refusal() -> Response:
+    """Returns the answer to somebody else, with nothing of the desk."""
     text = "This page needs the address that crnplan desk has printed when it was opened.\n"
-    abort(Response(text, 403, mimetype="text/plain"))
+    return Response(text, 403, HEADERS, "text/plain")
 
 
-def cookie_name() -> str:
+def cookie_name(head: Head) -> str:
     """Returns the name of the desk's cookie, which has its port: all desks of a machine share their cookies."""
-    return f"{COOKIE}-{request.host.rpartition(':')[2]}"
+    return f"{COOKIE}-{head.host.rpartition(':')[2]}"
 
 
-def guard(app: Flask, secret: Secret, hosts: set[str]) -> None:
-    """Has an application answer only who has the secret, and only for some hosts."""
+class Judge:
+    """Says by the heads of requests who asks the desk."""
+
+    def __init__(self, secret: Secret, hosts: Set[str]) -> None:
+        self.secret, self.hosts = secret, hosts
+        self.session, self.token = secret.derived("session"), secret.derived(TOKEN)
+
+    def knows(self, head: Head) -> bool:
+        """Returns whether a request is for this desk."""
+        return head.host in self.hosts and head.method in METHODS
+
+    def admits(self, head: Head) -> bool:
+        """Returns whether a request is of who has entered, and of no other page."""
+        words, is_form = head.headers, head.method == "POST"
+        return (
+            self.knows(head)
+            and words.get("Sec-Fetch-Site", "none") in SITES
+            and is_equal(head.cookies.get(cookie_name(head), ""), self.session)
+            and (not is_form or words.get("Origin") == f"http://{head.host}")
+        )
+
+
+class JudgedParser(HTTPRequestParser):  # type: ignore[misc]
+    """A request whose body is taken only of who has entered: waitress stores all of it before it asks the application."""
+
+    body_rcv: Any
+
+    def __init__(self, judge: Judge, settings: Any) -> None:
+        super().__init__(settings)
+        self.judge = judge
+
+    def parse_header(self, text: bytes) -> None:
+        """Reads the head of a request, and refuses a body of others, which is then not read."""
+        super().parse_header(text)
+        words = {name.replace("_", "-"): word for name, word in self.headers.items()}
+        head = Head(
+            self.command, "http", None, "", self.path, b"", Headers(words), None
+        )
+        if self.body_rcv is not None and not self.judge.admits(head):
+            self.error, self.body_rcv = self, None
+            self.content_length, self.expect_continue = 0, False
+
+    @staticmethod
+    def to_response() -> tuple[str, list[tuple[str, str]], bytes]:
+        """Returns the refusal as waitress sends it before it closes the connection."""
+        answer = refusal()
+        return answer.status, answer.headers.to_wsgi_list(), answer.get_data()
+
+
+def channels_of(judge: Judge) -> type[HTTPChannel]:
+    """Returns the class of connections that take bodies as a judge says."""
+    return type(
+        "Channel", (HTTPChannel,), {"parser_class": partial(JudgedParser, judge)}
+    )
+
+
+def guard(app: Flask, judge: Judge) -> None:
+    """Has an application answer only who has the secret."""
     app.request_class = BoundedRequest
-    session, token = secret.derived("session"), secret.derived(TOKEN)
 
     @app.before_request
-    def check() -> AnyResponse | None:
-        if request.host not in hosts or request.method not in METHODS:
-            refuse()
-        if request.endpoint == "enter":
-            return None
-        if request.headers.get("Sec-Fetch-Site", "none") not in SITES:
-            refuse()
-        if not is_equal(request.cookies.get(cookie_name(), ""), session):
-            refuse()
+    def check() -> None:
+        is_entering = request.endpoint == "enter" and judge.knows(request)
+        if not is_entering and not judge.admits(request):
+            abort(refusal())
         if request.method == "POST":
-            if request.headers.get("Origin") != f"http://{request.host}":
-                refuse()
-            if not is_equal(request.form.get(TOKEN, ""), token):
-                refuse()
-        return None
+            if not is_equal(request.form.get(TOKEN, ""), judge.token):
+                abort(refusal())
 
     @app.get("/enter/<given>")
     def enter(given: str) -> Response:
-        if not is_equal(given, secret.text):
-            refuse()
+        if not is_equal(given, judge.secret.text):
+            abort(refusal())
         # A redirect would be a request of the page that has led here, which may be no page of the desk.
         answer = Response(rendered("desk/way.html", {"address": "/"}))
-        answer.set_cookie(cookie_name(), session, httponly=True, samesite="Strict")
+        name = cookie_name(request)
+        answer.set_cookie(name, judge.session, httponly=True, samesite="Strict")
         return answer
 
     @app.after_request

@@ -2,6 +2,8 @@
 from __future__ import annotations
 
 import contextlib
+import ctypes
+import logging
 import os
 import re
 import signal
@@ -25,10 +27,13 @@ from . import files, items, orders, past, plans, results, settings
 from .front import FRONT, Front, page
 from .kept import DESK, Desk
 from .language import as_field
-from .safety import MOST_UPLOAD, Secret, guard
+from .safety import MOST_UPLOAD, Judge, Secret, channels_of, guard
 
 LOCAL = "127.0.0.1"
-THREADS, MOST_CONNECTIONS = 4, 60
+# A browser keeps some six connections. One that sends nothing for so long is closed.
+THREADS, MOST_CONNECTIONS, SILENT_SECONDS = 4, 30, 60
+# Settings of the C library's memory: M_ARENA_MAX and M_TRIM_THRESHOLD, in bytes.
+MEMORY = {-8: 1, -1: 1 << 16}
 # The address of the desk that runs, for who opens it a second time, and a page that leads there.
 ADDRESS, WAY = f"{IN_KEPT}address", f"{IN_KEPT}open.html"
 ADDRESS_FORM = re.compile(r"http://127\.0\.0\.1:[0-9]{1,5}/enter/[\w-]{43}", re.ASCII)
@@ -69,7 +74,7 @@ def application(front: Front, hosts: set[str]) -> Flask:
     app = Flask(__name__, static_folder=None, template_folder=None)
     app.extensions[FRONT] = front
     setattr(app, "wsgi_app", spelling(app.wsgi_app))
-    guard(app, front.secret, hosts)
+    guard(app, Judge(front.secret, hosts))
     add_looks(app)
     for module in MODULES:
         app.register_blueprint(module.pages)
@@ -93,6 +98,14 @@ def application(front: Front, hosts: set[str]) -> Flask:
         return page("refused.html", said=[why.description or why.name]), why.code or 500
 
     return app
+
+
+def save_memory() -> None:
+    """Has threads take memory from one place, so that each can use what another has freed, and what is free given back:
+    where the C library can. The figures of an item take 40 MB less."""
+    with contextlib.suppress(AttributeError):
+        for name, value in MEMORY.items():
+            ctypes.CDLL(None).mallopt(name, value)
 
 
 @contextlib.contextmanager
@@ -151,15 +164,19 @@ def own_desk(path: Path) -> Iterator[Folder]:
 def server_of(front: Front, port: int) -> tuple[Any, str]:
     """Returns the server of a desk and its address."""
     hosts = set[str]()
+    logging.getLogger("waitress.queue").setLevel(logging.ERROR)  # Requests may wait.
     server: Any = waitress.server.create_server(
         application(front, hosts),
         host=LOCAL,
         port=port,
         threads=THREADS,
         connection_limit=MOST_CONNECTIONS,
+        channel_timeout=SILENT_SECONDS,
+        clear_untrusted_proxy_headers=True,
         max_request_body_size=MOST_UPLOAD,
         ident=None,
     )
+    server.channel_class = channels_of(Judge(front.secret, hosts))
     hosts |= {f"{name}:{server.effective_port}" for name in (LOCAL, "localhost")}
     return server, f"http://{LOCAL}:{server.effective_port}/enter/{front.secret.text}"
 
@@ -171,6 +188,7 @@ def serve(
 
     If the desk is open already, the browser is opened there. Raises Refused for a folder that is no desk.
     """
+    save_memory()
     with contextlib.ExitStack() as stack:
         try:
             folder = stack.enter_context(own_desk(path))

@@ -41,6 +41,8 @@ class Work:
         self.progress: dict[str, Any] = {}
         self.ended, self.said = "", list[str]()
         self.is_stopped = False
+        # Until its process says something, interrupts may be ignored there, as whoever has started the desk ignores them.
+        self.is_heeding = False
         self._end = end
         self.process = subprocess.Popen(
             [sys.executable, "-P", "-m", __name__],
@@ -62,7 +64,7 @@ class Work:
         assert self.process.stdout
         ended, said = REFUSED, list[str]()
         for line in self.process.stdout:
-            told = json.loads(line)
+            told, self.is_heeding = json.loads(line), True
             if "ended" in told:
                 ended, said = told["ended"], told["said"]
             else:
@@ -81,7 +83,8 @@ class Work:
         """Has the process end within two seconds. What it has done is kept."""
         self.is_stopped = True
         if self.process.poll() is None:
-            self.process.send_signal(signal.SIGINT)
+            signals = signal.SIGTERM, signal.SIGINT
+            self.process.send_signal(signals[self.is_heeding])
 
     def close(self) -> None:
         """Stops the work, and waits for its end."""
@@ -174,9 +177,10 @@ WORK = {READING: read, PLANNING: plan, TESTING: test}
 
 
 def wait_for(folder: Path) -> None:
-    """Waits until nobody works in a folder: the process of a desk that was ended by force takes a moment to end."""
+    """Waits until nobody works in a folder or reads it: the process of a desk that was ended by force takes a moment to
+    end."""
     with contextlib.suppress(FileNotFoundError), (folder / MARKER).open() as marker:
-        fcntl.flock(marker, fcntl.LOCK_SH)
+        fcntl.flock(marker, fcntl.LOCK_EX)
 
 
 def stop_with_desk(line: int) -> None:
@@ -194,6 +198,7 @@ def main() -> None:
     signal.signal(signal.SIGINT, signal.default_int_handler)
     with heeding_interrupts(), shown_by(Shown()), spelt(as_field):
         try:
+            told()
             asked = json.loads(sys.stdin.readline())
             words = [sys.stdin.fileno()]
             threading.Thread(target=stop_with_desk, args=words, daemon=True).start()

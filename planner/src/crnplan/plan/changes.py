@@ -12,7 +12,9 @@ from operator import attrgetter
 from typing import NamedTuple
 
 from ..demand.fitting import fit_lead
+from ..demand.seasons import CALENDAR
 from ..read.bounds import Bounds
+from ..policies import Levels
 from ..read.item import Item
 from ..remarks import Remark, Value
 from .answer import Answer, Figures, LawFacts
@@ -167,7 +169,8 @@ def reasons_of(
 
 def since_of(old: Planned, now: Item, settings: Settings, stop: int) -> Since | None:
     """Returns what the policy of the earlier plan came to in the periods from `stop` on, by the settings of that plan;
-    None if there are no such periods. It is in use from the first period of the record on.
+    None if there are no such periods. It is in use from the first period of the record on: in each month of a season with
+    the levels of that month.
     """
     item, answer = old
     places, now = now.known_places, now.known
@@ -179,8 +182,15 @@ def since_of(old: Planned, now: Item, settings: Settings, stop: int) -> Since | 
     past = dataclasses.replace(item, **happened_to, unknown=(), cut=(), promoted=())
     lead = fit_lead(item.leads, method=settings.lead_fit)
     happened = Happened(past, lead, settings.seed_of("since", item.name), record)
-    later = [now.first + place for place in places[record:]]
-    kept = happened.of_figures([answer.chosen_in(period) for period in later])
+    numbers = [now.first + place for place in places]
+    later, before = numbers[record:], list[Levels]()
+    if answer.calendar:
+        year = CALENDAR[settings.every]["season"]
+        for number in numbers[:record]:
+            coming = stop + (number - stop) % year
+            before.append(answer.chosen_in(coming).levels)
+    chosen = [answer.chosen_in(period) for period in later]
+    kept = happened.of_figures(chosen, before)
     return Since(later[0], sum(now.counts) / len(now.counts), demands, kept)
 
 

@@ -27,7 +27,8 @@ from ..errors import Refused, argument
 from ..store.files import IN_KEPT, Folder
 from ..store.means import Means
 from ..read.catalogue_reading import Catalogued
-from ..read.item import TEACHING, Item
+from ..read.item import USUAL, Item
+from ..read.quiet import is_quiet
 from ..remarks import Remark
 from ..store.stored import Store
 from ..theory.long_run import LongRun
@@ -100,6 +101,8 @@ def in_blocks(
     periods = len(item.counts)
     if not any(item.counts):
         raise Refused("it has no demand")
+    if settings.every and is_quiet(item.counts, settings.every):
+        raise Refused("it is hardly asked for any longer")
     returns = item.returns or (0,) * periods
     sums = np.zeros(1)
     for first, end in blocks_of(periods):
@@ -175,11 +178,12 @@ OF_COSTS = Kind("backlog", cost_trial_asked, CostTrial, COST_TRIALS)
 
 
 def tried_names(read: Catalogued, kind: Kind = OF_FILLS) -> list[str]:
-    """Returns in order the names of the items with a past and a fact, of at most 1,000 with the least digests, which is
-    as good as at random."""
+    """Returns in order the names of the items with a past that goes on and a fact, of at most 1,000 with the least digests,
+    which is as good as at random. One that has ended would count its end as what plans of all others have missed.
+    """
     wanted = list[tuple[str, str]]()
     for name, fact, past in read.cells("name", kind.fact, "past"):
-        if fact is not None and past in TEACHING:
+        if fact is not None and past == USUAL:
             wanted.append((name, ""))
     return drawn_of_groups(wanted, MOST_ITEMS)
 
@@ -220,6 +224,7 @@ def ways_of(settings: Settings) -> Settings:
         settings.fit,
         settings.borrow,
         lead_fit=settings.lead_fit,
+        every=settings.every,
         window=settings.window,
         seasons=settings.seasons,
     )
@@ -230,7 +235,6 @@ def cost_ways_of(settings: Settings, aims: Aims | None) -> Settings:
     its bounds."""
     return dataclasses.replace(
         ways_of(settings),
-        every=settings.every,
         order_min=settings.order_min,
         max_coverage=settings.max_coverage,
         s_min=settings.s_min,

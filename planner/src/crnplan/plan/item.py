@@ -92,7 +92,8 @@ class Coming(NamedTuple):
 
 class Depth:
     """What is computed of an item beside its answer, as it is asked for. `laws` is how many are drawn that its history
-    allows, `confidence` the share of them under which suggested policies keep a fill rate.
+    allows, `confidence` the share of them under which suggested policies keep a fill rate. Of an item that is planned by
+    its season all is of the first month, but for `whole`, the answer to the year.
     """
 
     def __init__(
@@ -102,6 +103,7 @@ class Depth:
         program: str,
         laws: int = LAWS,
         confidence: float | None = None,
+        whole: Answer | None = None,
     ) -> None:
         if answer.run is None:
             raise Refused(
@@ -109,6 +111,7 @@ class Depth:
                 "its figures by theory are in decisions.csv, and it has no page",
             )
         self.question, self.answer, self.run = question, answer, answer.run
+        self.whole = whole or answer
         self.program, self.laws = program, laws
         self.confidence = confidence or question.settings.confidence or CONFIDENCE
 
@@ -353,6 +356,12 @@ class Depth:
             cost, diff = question.money(row.cost), question.money(row.diff / periods)
             coming.append(replace(row, cost=cost, diff=diff, low=low, high=high))
         return Coming(scenario, coming)
+
+
+def depth_of(question: Question, answer: Answer, program: str) -> Depth:
+    """Returns the deeper look at an item of a plan, by the answer that the plan has. Raises as `plan_one` does."""
+    month = plan_one(question, program) if answer.calendar else answer
+    return Depth(question, month, program, whole=answer)
 
 
 class Facts(NamedTuple):

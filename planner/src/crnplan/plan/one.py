@@ -416,14 +416,6 @@ def planned(
     return over_year(months, verdict_of)
 
 
-def of_month(question: Question, answer: Answer, program: str) -> Answer:
-    """Returns the answer to the month of a question in place of that to a year, with its calendar; another answer as it
-    is. Raises as `plan_one` does."""
-    if not answer.calendar:
-        return answer
-    return dataclasses.replace(plan_one(question, program), calendar=answer.calendar)
-
-
 def plan_asked(
     asked: tuple[Item, Sequence[Levels] | None],
     settings: Settings,

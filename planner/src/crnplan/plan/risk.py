@@ -7,18 +7,42 @@ demand is that of whole periods, by the laws of the plan, if periods are indepen
 from __future__ import annotations
 
 import math
-from collections.abc import Iterable
+from collections.abc import Iterable, Iterator, Mapping
 from dataclasses import dataclass
 from fractions import Fraction
 from functools import cached_property
 from operator import attrgetter
+from typing import TYPE_CHECKING
 
 import numpy as np
 
 from ..read.columns import DAYS
 from ..read.observed import Day
+from ..read.stock import NONE, Arrival
 from ..remarks import Remark
-from .standing import Standing, demands_of, items_of
+from ..theory.walk import NOTHING, LatticeLaw, power_of, sum_of
+from .answer import Laws
+
+if TYPE_CHECKING:
+    from .standing import Standing
+
+
+def items_of(arrivals: Iterable[Arrival]) -> Fraction:
+    """Returns how many items arrive."""
+    return sum((arrival.items for arrival in arrivals), NONE)
+
+
+def demands_of(
+    laws: Laws, horizons: Mapping[int, float]
+) -> Iterator[tuple[int, float, LatticeLaw]]:
+    """Yields numbers of periods, which rise, each with its chance and with the law of the net demand of so many, in
+    boxes."""
+    total, before, net = NOTHING, 0, LatticeLaw.of(laws.demand, 1)
+    if laws.returns:
+        net = sum_of(net, LatticeLaw.of(laws.returns, 1).reflected)
+    for periods, chance in horizons.items():
+        total, before = sum_of(total, power_of(net, periods - before)), periods
+        yield periods, chance, total
 
 
 @dataclass(frozen=True)
@@ -112,7 +136,7 @@ class Risk:
         price = self.standing.item.price
         return None if price is None else self.short * float(price)
 
-    @property
+    @cached_property
     def reasons(self) -> list[Remark]:
         """Returns why the item is late or at risk; nothing if it is not."""
         reasons = list[Remark]()
@@ -140,5 +164,5 @@ class Risk:
 
 def risks_of(standings: Iterable[Standing]) -> list[Risk]:
     """Returns the items that are late or at risk, what to expedite first before others."""
-    risks = [risk for risk in map(Risk, standings) if risk.reasons]
+    risks = [it.risk for it in standings if it.risk.reasons]
     return sorted(risks, key=attrgetter("order"))

@@ -12,7 +12,14 @@ import numpy as np
 
 from ..chances import Floats
 from ..demand.fitted import FittedLaw
-from ..demand.index import Index, Years, class_index, flattened, own_index
+from ..demand.index import (
+    Index,
+    Years,
+    class_index,
+    flattened,
+    own_alarms,
+    own_index,
+)
 from ..demand.seasons import CALENDAR, months_of
 from ..demand.standing_out import Amounts, HighWeeks, standing_out
 from ..formats import MOST_DEMAND
@@ -98,12 +105,14 @@ class InSeason:
 class Seasons:
     """The seasons of a catalogue whose periods are `every`, by class: of those that have one. Items without a class are
     one, whose name is empty. `promoted` has by class the numbers of the weeks that stand out, as promotions do: no season
-    is learned from these.
+    is learned from these. `own` has the p value up to which items have a season of their own, by class: of those whose
+    items differ.
     """
 
     every: str
     classes: Mapping[str, Index]
     promoted: Mapping[str, tuple[int, ...]] = field(default_factory=dict)
+    own: Mapping[str, float] = field(default_factory=dict)
 
     @classmethod
     def of(cls, every: str, items: Iterable[Item], is_marked: bool = False) -> Seasons:
@@ -113,16 +122,22 @@ class Seasons:
         for item in items:
             groups[item.group].append(item)
         promoted, classes = dict[str, tuple[int, ...]](), dict[str, Index]()
+        alarms = dict[str, float]()
         for name in sorted(groups):
             high, own = HighWeeks(), groups[name]
             if every == "week" and not is_marked:
                 high = standing_out([*map(amounts_of, own)])
             index = index_without(every, own, high)
+            alarm = own_alarms(
+                [years_without(every, item, high.promoted) for item in own]
+            )
             if high.promoted:
                 promoted[name] = high.promoted
             if index:
                 classes[name] = index
-        return cls(every, classes, promoted)
+            if alarm:
+                alarms[name] = alarm
+        return cls(every, classes, promoted, alarms)
 
     def promotions(self, item: Item) -> set[int]:
         """Returns the places of the promoted periods of an item."""
@@ -137,13 +152,14 @@ class Seasons:
         promoted = {
             name: tuple(weeks) for name, weeks in tree.get("promoted", {}).items()
         }
-        return cls(tree["every"], classes, promoted)
+        return cls(tree["every"], classes, promoted, tree.get("own", {}))
 
     def seen_in(self, item: Item) -> Index | None:
         """Returns the index of an item: its own if that is clear, else that of its class; None without a season."""
         weeks = self.promoted.get(item.group, ())
         years = years_without(self.every, item, weeks)
-        return own_index(years, self.classes.get(item.group))
+        alarms = self.own.get(item.group, 0.0)
+        return own_index(years, self.classes.get(item.group), alarms)
 
     def of_item(self, item: Item) -> Index | None:
         """Returns the index by which an item is planned; None without a season, or if amounts without it, or with another

@@ -11,7 +11,7 @@ from __future__ import annotations
 import datetime
 import math
 from collections import Counter
-from collections.abc import Iterable, Iterator, Mapping, Sequence
+from collections.abc import Sequence
 from dataclasses import dataclass
 from fractions import Fraction
 from functools import cached_property
@@ -24,29 +24,11 @@ from ..read.observed import Day
 from ..read.quantities import Quantity
 from ..read.stock import NONE, Arrival, OnHand
 from ..remarks import Remark, Value
-from ..theory.walk import NOTHING, LatticeLaw, power_of, sum_of
 from .answer import Answer, Laws
+from .risk import Risk, demands_of, items_of
 
 MOST_DAYS = 36_525  # from today to a latest date
 Money = Fraction | None  # None if an item has no price
-
-
-def items_of(arrivals: Iterable[Arrival]) -> Fraction:
-    """Returns how many items arrive."""
-    return sum((arrival.items for arrival in arrivals), NONE)
-
-
-def demands_of(
-    laws: Laws, horizons: Mapping[int, float]
-) -> Iterator[tuple[int, float, LatticeLaw]]:
-    """Yields numbers of periods, which rise, each with its chance and with the law of the net demand of so many, in
-    boxes."""
-    total, before, net = NOTHING, 0, LatticeLaw.of(laws.demand, 1)
-    if laws.returns:
-        net = sum_of(net, LatticeLaw.of(laws.returns, 1).reflected)
-    for periods, chance in horizons.items():
-        total, before = sum_of(total, power_of(net, periods - before)), periods
-        yield periods, chance, total
 
 
 @dataclass(frozen=True)
@@ -130,10 +112,15 @@ class Standing:
         """Returns what lacks up to S; below 0 if the position is above it."""
         return self.levels[1] - self.position
 
-    @property
+    @cached_property
     def above(self) -> Fraction:
         """Returns what stands above S; 0 if nothing does, or there is no S."""
         return max(-self.to_level, NONE) if self.is_planned else NONE
+
+    @cached_property
+    def excess(self) -> Money:
+        """Returns what that is worth."""
+        return self.worth(self.above)
 
     @property
     def up_to_level(self) -> int:
@@ -241,6 +228,11 @@ class Standing:
             boxes = math.floor(self.there_within(periods) / self.laws.box)
             total += chance * demand.above(boxes)
         return total
+
+    @cached_property
+    def risk(self) -> Risk:
+        """Returns what the item may lack before its next receipt."""
+        return Risk(self)
 
     @property
     def time(self) -> float:

@@ -12,6 +12,7 @@ from difflib import get_close_matches
 from fractions import Fraction
 from functools import cached_property
 from operator import attrgetter, itemgetter
+from typing import Any
 
 from ..errors import Refused, argument
 from ..read.controls import Controls
@@ -92,9 +93,7 @@ class Group:
 
     @property
     def excess(self) -> Fraction:
-        return sum_of_money(
-            standing.worth(standing.above) for standing in self.standings
-        )
+        return sum_of_money(standing.excess for standing in self.standings)
 
     @property
     def dead_value(self) -> Fraction:
@@ -335,8 +334,12 @@ def minimums_of(
 class _Sorted:
     """The items of a plan on a day, each where it belongs by what it has and by its answer."""
 
-    def __init__(self, holdings: Holdings, day: Day, every: str) -> None:
+    def __init__(
+        self, holdings: Holdings, day: Day, every: str, known: dict[str, Standing]
+    ) -> None:
+        """Takes what items were known to stand at, which it keeps up to date."""
         self.holdings, self.day, self.every = holdings, day, every
+        self.known = known
         self.items, self.standings = list[Item](), list[Standing]()
         self.unknown = list[tuple[Item, Remark]]()
         self.dead, self.ended = list[Lying](), list[Lying]()
@@ -373,6 +376,9 @@ class _Sorted:
         standing = Standing(
             item, planned, hand, arrivals, self.day, self.every, quantity
         )
+        if self.known.get(item.name) == standing:
+            standing = self.known[item.name]  # with what was computed of it
+        self.known[item.name] = standing
         is_quiet = is_dead(item.known.counts, self.every)
         is_idle = item.past == NO_DEMAND and is_quiet and not hand.owed
         if is_ended:
@@ -385,47 +391,58 @@ class _Sorted:
             self.dead.append(Lying(item, hand))
 
 
-def today_of(
-    folder: PlannedFolder,
-    answers: Iterable[Decided],
-    tables: Mapping[str, Table | None],
-    words: Words,
-    day: Day,
-    stated: Mapping[str, Fraction],
-) -> Today:
-    """Returns what a planned folder, whose items have answers, says on a day, with tables of stock and of what is to come
-    by kind. Items are by all their periods. Without a table of stock, that of the masters counts. Raises Refused
-    if no stock is known, and as `read_holdings` does."""
-    prices = {name: price for name, price in folder.read.values("name", "price")}
-    packs = {name: pack for name, pack in folder.read.cells("name", "bounds_pack")}
-    holdings = read_holdings(tables, words, prices, packs)
-    found = _Sorted(holdings, day, folder.every)
-    for item, answer in answers:
-        found.add(item, answer)
-    if holdings.on_hand is None and not found.has_stock:
-        raise Refused(
-            f"{folder.path}: no item has a stock in its masters",
-            f"name a table by {argument('stock')}",
+class Days:
+    """A planned folder as it is asked on days: by words, and with what it has of its items, which is read once. What an
+    item stands at is kept until that changes."""
+
+    def __init__(self, folder: PlannedFolder, words: Words) -> None:
+        """Takes a folder that is open until `decided` is read."""
+        self.folder, self.words, read = folder, words, folder.read
+        self.prices = {name: price for name, price in read.values("name", "price")}
+        self.packs = {name: pack for name, pack in read.cells("name", "bounds_pack")}
+        next_day = first_day(read.fact("periods")[1], folder.every)
+        self.end = next_day - datetime.timedelta(1)
+        # What items stood at last, and the tables that were read last.
+        self.known, self.tables = dict[str, Standing](), dict[str, Any]()
+
+    @cached_property
+    def decided(self) -> list[Decided]:
+        """Returns the items by all their periods, with their answers."""
+        return [*self.folder.answers(is_whole=True)]
+
+    def today(self, tables: Mapping[str, Table | None], day: Day) -> Today:
+        """Returns what the folder says on a day, with tables of stock and of what is to come by kind. Without a table of
+        stock, that of the masters counts. Raises Refused if no stock is known, and as `read_holdings` does.
+        """
+        holdings = read_holdings(
+            tables, self.words, self.prices, self.packs, self.tables
         )
-    if found.unstocked:
-        raise Refused(
-            f"{argument('quantities')}: the stock of {names_of(found.unstocked, MOST_NAMED)} is not known",
-            "add it to the stock, or write 0",
+        found = _Sorted(holdings, day, self.folder.every, self.known)
+        for item, answer in self.decided:
+            found.add(item, answer)
+        if holdings.on_hand is None and not found.has_stock:
+            raise Refused(
+                f"{self.folder.path}: no item has a stock in its masters",
+                f"name a table by {argument('stock')}",
+            )
+        if found.unstocked:
+            raise Refused(
+                f"{argument('quantities')}: the stock of {names_of(found.unstocked, MOST_NAMED)} is not known",
+                "add it to the stock, or write 0",
+            )
+        return Today(
+            day=day,
+            end=self.end,
+            standings=[*by_urgency(found.standings)],
+            unknown=found.unknown,
+            dead=found.dead,
+            minimums=minimums_of(found.items, self.words.defaults.supplier_min),
+            has_orders=any(tables.get(kind) is not None for kind in TO_COME),
+            counts=holdings.counts,
+            rejects=holdings.rejects,
+            sellers=sorted({item.supplier for item in found.items}),
+            ended=found.ended,
+            said=holdings.remarks,
+            controls=holdings.controls,
+            has_quantities=tables.get(QUANTITIES) is not None,
         )
-    next_day = first_day(folder.read.fact("periods")[1], folder.every)
-    return Today(
-        day=day,
-        end=next_day - datetime.timedelta(1),
-        standings=[*by_urgency(found.standings)],
-        unknown=found.unknown,
-        dead=found.dead,
-        minimums=minimums_of(found.items, stated),
-        has_orders=any(tables.get(kind) is not None for kind in TO_COME),
-        counts=holdings.counts,
-        rejects=holdings.rejects,
-        sellers=sorted({item.supplier for item in found.items}),
-        ended=found.ended,
-        said=holdings.remarks,
-        controls=holdings.controls,
-        has_quantities=tables.get(QUANTITIES) is not None,
-    )

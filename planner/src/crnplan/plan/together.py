@@ -24,7 +24,7 @@ from ..compiled import load_compiler
 from ..demand.learning import Prior
 from ..errors import Refused, argument
 from ..read.catalogue_reading import Catalogued
-from ..read.item import TEACHING, UNORDERED, Item
+from ..read.item import UNORDERED, USUAL, Item
 from ..remarks import Remark
 from ..store.files import IN_KEPT, Folder
 from ..store.means import Means
@@ -113,7 +113,7 @@ def wants_aims(read: Catalogued, settings: Settings) -> bool:
         return True
     members = {name for name, *_ in members_of(read, settings)}
     return any(
-        fill is not None and past in TEACHING and name not in members
+        fill is not None and past == USUAL and name not in members
         for name, fill, past in read.cells("name", "fill", "past")
     )
 

@@ -93,6 +93,7 @@ MOST_NAME = 100
 # Of more columns than these, the first ones are named.
 MOST_LISTED, FIRST_LISTED = 12, 5
 NO_ROW = Remark("no row")
+TWO_COLUMNS = "two columns"  # the code of what is said of these
 
 
 def counts_items(role: str, column: Column | None) -> bool:
@@ -306,7 +307,7 @@ class Finder:
             places = self._others(role)
         if len(places) > 1:
             names = " and ".join(repr(heading[place]) for place in places)
-            self._refuse("two columns", role, names=names)
+            self._refuse(TWO_COLUMNS, role, names=names)
         elif places:
             self._add(role, Column(heading[places[0]], places[0], True))
         elif unclear:
@@ -314,8 +315,10 @@ class Finder:
                 unknown = ", ".join(map(repr, words))
                 self._refuse("unknown words", role, name=heading[place], words=unknown)
         elif role in self.needed or role not in self.stated and self._has_other(role):
-            code = "no column" + f" of {role}" * (role in ("setup", "holding"))
-            self._refuse(code, role, columns=listed(heading))
+            own = f" of {role}" * (role in ("setup", "holding"))
+            code = "no column" + (" of a level" if role in LEVELS else own)
+            facts = {"kind": self.kind, "other": LEVELS.get(role, "")}
+            self._refuse(code, role, columns=listed(heading), **facts)
 
     def _others(self, role: str) -> list[int]:
         """Returns the places of the columns that have a role if no column has one of its names: dates that are named by

@@ -185,8 +185,11 @@ def is_missing(value: Any) -> bool:
 
 def number_of(value: int | float | Decimal, text: str) -> Cell:
     """Returns a number, which shows a text."""
-    if not math.isfinite(value):
-        return float(value)
+    if not isinstance(value, int):
+        if Decimal(value).is_nan():
+            return math.nan
+        if not math.isfinite(value):  # nor is a decimal above every float
+            return float(value)
     if value == int(value):
         return int(value)
     if Decimal(repr(float(text))) == Decimal(text):

@@ -5,6 +5,7 @@ Nothing is raised for what is wrong: who looks may then say what is meant.
 """
 from __future__ import annotations
 
+import contextlib
 import copy
 import itertools
 from collections.abc import Iterable, Iterator, Mapping, Sequence
@@ -16,7 +17,7 @@ from ..errors import Fault, Refused, RefusedFaults
 from ..remarks import Remark
 from ..store.digests import digest_of
 from .cells import text_of
-from .columns import NEEDED, columns_in, find_heading
+from .columns import NEEDED, TWO_COLUMNS, columns_in, find_heading
 from .items import Words
 from .law_forms import LAWS
 from .opening import opened
@@ -26,6 +27,7 @@ SEEN_ROWS = 5
 ONE_LIKELY = "likely encodings 1"  # the code of what is said of bytes in such a one
 # The roles that masters need, and that a planner may state for all items in place of a column.
 STATED = {"setup", "holding"}
+NAMES = {"item", "description"}  # the roles that each table of items has
 
 
 @dataclass(frozen=True)
@@ -48,16 +50,27 @@ class Glance:
     is_refused: bool = False
 
     @property
-    def fits(self) -> bool:
-        """Returns whether the file has all columns that its kind needs."""
-        if self.kind == LAWS and self.wrong:
-            return False
-        return NEEDED[self.kind] - STATED <= self.columns.keys()
+    def seen(self) -> set[str]:
+        """Returns the roles that the file has, also those that one of two columns may have."""
+        said = [one.said for one in self.wrong if isinstance(one.said, Remark)]
+        twice = {str(it.facts["role"]) for it in said if it.code == TWO_COLUMNS}
+        return twice | self.columns.keys()
 
     @property
-    def rank(self) -> tuple[int, bool]:
-        """Returns what sorts the kinds that a file fits: by how many columns it has of each."""
-        return len(self.columns), NEEDED[self.kind] <= self.columns.keys()
+    def fits(self) -> bool:
+        """Returns whether the file has all columns that its kind needs, and more than names."""
+        if self.kind == LAWS and self.wrong:
+            return False
+        return NEEDED[self.kind] - STATED <= self.seen and not self.seen <= NAMES
+
+    @property
+    def rank(self) -> tuple[int, bool, bool]:
+        """Returns what sorts the kinds that a file fits: by how many columns it has of each. Of two dates one is that of an order."""
+        return (
+            len(self.seen),
+            NEEDED[self.kind] <= self.seen,
+            self.kind == "orders",
+        )
 
     @property
     def likely(self) -> str:
@@ -78,6 +91,7 @@ def glance(kind: str, table: str, words: Words, room: Path | None = None) -> Gla
     faults = list[Fault]()
     try:
         with opened(table, kind, words.rules_of(kind), room) as sheet:
+            sheet.is_sample = True
             finder = find_heading(kind, sheet, words)
             if sheet.fault:
                 faults.append(sheet.fault)
@@ -96,6 +110,18 @@ def glance(kind: str, table: str, words: Words, room: Path | None = None) -> Gla
     except Refused as why:
         faults += faults_of(why)
         return Glance(kind, faults=faults, is_refused=True)
+
+
+def glances(
+    kinds: Sequence[str], table: str, words: Words, room: Path | None = None
+) -> list[Glance]:
+    """Returns what is seen of a file as a table of each of some kinds. What these share is read once."""
+    with contextlib.ExitStack() as stack:
+        with contextlib.suppress(Refused):
+            rules = words.rules_of(kinds[0])
+            stack.enter_context(opened(table, kinds[0], rules, room))
+        seen = [glance(kind, table, words, room) for kind in kinds]
+    return seen
 
 
 def faults_of(why: Refused) -> Sequence[Fault]:

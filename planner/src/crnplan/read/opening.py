@@ -58,6 +58,25 @@ def copy_of(stream: Any, copy: Any, name: str, most: int | None = None) -> None:
         raise refused("no gzip", name, fault=str(fault)) from fault
 
 
+def file_and_sheet(name: str) -> tuple[Path, str | None]:
+    """Returns the file that a name says, and the sheet of FILE.xlsx!SHEET. Either may have `!` in its own name: it is split
+    where a file is there. Raises RefusedFaults if there is none."""
+    if Path(name).is_file():
+        return Path(name), None
+    parts = name.split("!")
+    books = dict[Path, str]()
+    for place in range(len(parts) - 1, 0, -1):
+        book = Path("!".join(parts[:place]))
+        if book.suffix.lower() in BOOKS:
+            books[book] = "!".join(parts[place:])
+    for book, sheet in books.items():
+        if book.is_file():
+            return book, sheet
+    if books:
+        raise refused("no book", name, books=", ".join(map(str, books)))
+    return Path(name), None
+
+
 @contextlib.contextmanager
 def opened(
     table: Table, kind: str, rules: Rules, folder: Path | None = None
@@ -71,13 +90,9 @@ def opened(
         return
     is_input = str(table) == "-"
     name = "standard input" if is_input else str(table)
-    path = Path(table)
+    path, sheet = file_and_sheet(name)
     if path.name.startswith(LOCK):
         raise refused("lock file", name, book=path.name.removeprefix(LOCK))
-    book, sign, sheet = name.rpartition("!")
-    if sign and Path(book).suffix.lower() in BOOKS:
-        yield sheet_of_book(Path(book), sheet, rules)
-        return
     with contextlib.ExitStack() as stack:
         is_packed = path.suffix.lower() == ".gz" and path.is_file()
         is_pipe = path.exists() and not (path.is_file() or path.is_dir())
@@ -92,6 +107,6 @@ def opened(
             with path.open("xb") as copy:
                 copy_of(stream, copy, name)
         if path.suffix.lower() in BOOKS:
-            yield sheet_of_book(path, None, rules)
+            yield sheet_of_book(path, sheet, rules)
         else:
             yield text_sheet(path, name, rules)

@@ -68,13 +68,17 @@ def months_of(counts: Sequence[int], every: str) -> list[int]:
     ]
 
 
+def is_quiet(counts: Sequence[int], every: str) -> bool:
+    """Returns whether an item has been quiet for longer than ever before, and so long that it is hardly active. It has had
+    demand, in days, weeks or months."""
+    if quiet_periods(counts) <= longest_before(counts):
+        return False
+    return chance_of_quiet(months_of(counts[1:], every)) <= CHANCE
+
+
 def has_stopped(counts: Sequence[int], every: str) -> bool:
     """Returns whether an item is asked for no longer: see the module. It has had demand, in days, weeks or months."""
-    return (
-        is_dead(counts, every)
-        and quiet_periods(counts) > longest_before(counts)
-        and chance_of_quiet(months_of(counts[1:], every)) <= CHANCE
-    )
+    return is_dead(counts, every) and is_quiet(counts, every)
 
 
 def quiet_remark(item: Item, every: str) -> Remark:

@@ -88,6 +88,17 @@ class Reader:
         """Returns the function that gives the rows of demand of an item."""
         return self.demand.rows.by_item(self.demand.rows.good)
 
+    @functools.cached_property
+    def places(self) -> dict[int, tuple[str, int]]:
+        """Returns the table and the line of the first good row of each item."""
+        places = dict[int, tuple[str, int]]()
+        for kind, own in self.rows.items():
+            items, firsts = np.unique(own.items[own.good], return_index=True)
+            lines = own.lines[own.good][firsts].tolist()
+            for item, line in zip(items.tolist(), lines):
+                places.setdefault(item, (kind, line))
+        return places
+
     def values(self) -> list[Fraction | None]:
         """Returns the value of the mean demand of each item, in order of names; None without a price or demand."""
         return [self._value_of_demand(item) for item in self.items]
@@ -441,10 +452,9 @@ class Reader:
         name = self.names[item]
         rows = self.masters_of(item)
         if not len(rows):
-            kind = "orders" if leads and not len(moves.lines) else "demand"
-            line = int(moves.lines[0]) if len(moves.lines) else 0
-            if self.laws and not line and self.laws.line(item):
-                kind, line = LAWS, self.laws.line(item)
+            kind, line = self.places[item]
+            if len(moves.lines):
+                kind, line = "demand", int(moves.lines[0])
             raise Left(kind, line, fault("item", name, "no master"))
         lines = self.rows["items"].lines[rows].tolist()
         if not self._are_equal(rows):

@@ -240,6 +240,7 @@ class Sheet:
 
     delimiter = sign = ","
     fault: Fault | None = None
+    is_sample = False  # whether a look at the beginning is enough
     hidden = 0  # rows that a workbook hides, as soon as all are read
     locks: Sequence[str] = ()  # files that its pattern names and that are none of it
     notes: Sequence[Remark] = ()  # what is to be said of how it is read

@@ -6,8 +6,8 @@ from collections import defaultdict
 from collections.abc import Callable, Iterable, Iterator, Mapping, Sequence
 from dataclasses import dataclass, field
 from fractions import Fraction
-from functools import partial
-from operator import attrgetter
+from functools import cached_property, partial, reduce
+from operator import add, attrgetter
 from types import MappingProxyType
 from typing import Any
 
@@ -35,6 +35,7 @@ KINDS = STOCK, ON_ORDER, PLACED, QUANTITIES = (
     "quantities",
 )  # of the tables
 TO_COME = ON_ORDER, PLACED  # the kinds of what is to come
+EXPORTED = STOCK, ON_ORDER  # those that other systems write
 NONE = Fraction(0)
 
 
@@ -103,6 +104,13 @@ class _Reader:
             readers["reason"] = reason_of
         self.reader = RowReader(readers, needed, factors_of(sheet.columns, every))
 
+    def is_of(self, sheet: Sheet) -> bool:
+        """Returns whether a table is in the same files as the one that was read, and nobody has changed these since."""
+        files, others = self.rows.sheet.files, sheet.files
+        return all(file.path for file in files) and [
+            (file.name, file.state) for file in files
+        ] == [(file.name, file.state) for file in others]
+
     def _read(self, row: int) -> tuple[dict[str, Any], list[CellFault]]:
         """Returns the values of a row by role, and what is wrong with its cells."""
         cells = {role: self.rows.cell(role, row) for role in self.reader.readers}
@@ -123,7 +131,20 @@ class _Reader:
             }
             yield fault("owed", self.rows.cell("owed", row), "owed twice", **facts)
 
-    @property
+    @cached_property
+    def found(self) -> dict[str, list[dict[str, Any]]]:
+        """Returns the values of the rows of items: see `items`."""
+        return dict(self.items())
+
+    @cached_property
+    def hands(self) -> dict[str, OnHand]:
+        """Returns what items have by a table of stock."""
+        return {
+            name: reduce(add, [OnHand.of(row["stock"], row["owed"]) for row in rows])
+            for name, rows in self.found.items()
+        }
+
+    @cached_property
     def controls(self) -> Controls:
         """Returns what the rows come to, by file and by what became of them."""
         controls = controls_of(
@@ -188,7 +209,7 @@ class _QuantityReader(_Reader):
         """Returns the quantities of items. Raises RefusedFaults with all that is wrong: nothing is ordered by a table that
         can't be read."""
         quantities = dict[str, Quantity]()
-        for name, (row, *_) in self.items():
+        for name, (row, *_) in self.found.items():
             quantities[name] = Quantity(int(row["quantity"]), row.get("reason") or "")
         faults = [
             Fault(reject.remark, reject.file, reject.line)
@@ -205,37 +226,40 @@ def read_holdings(
     words: Words,
     prices: Mapping[str, Fraction | None],
     packs: Mapping[str, int] = MappingProxyType({}),
+    known: dict[str, _Reader] | None = None,
 ) -> Holdings:
     """Reads the tables of today, by kind, for the items of a plan, whose prices are known, and packs if they are not of one
     item. Rows of one item add up; but a quantity has one row. Raises Refused and RefusedFaults for tables that can't be
-    read, and for quantities with faults. Other rows with faults are in `rejects`.
+    read, and for quantities with faults. Other rows with faults are in `rejects`. `known` has exported tables that were read before,
+    for the same items, and keeps those that are read now: rows of unchanged files are not read again.
     """
+    known = {} if known is None else known
     readers = dict[str, _Reader]()
     with open_tables(tables, words) as sheets:
         for kind, sheet in sheets.items():
             given = kind, sheet, prices, words.every
-            readers[kind] = (
-                _QuantityReader(packs, *given)
-                if kind == QUANTITIES
-                else _Reader(*given)
-            )
-    on_hand = dict[str, OnHand]()
+            if kind in known and known[kind].is_of(sheet):
+                readers[kind] = known[kind]
+            elif kind == QUANTITIES:
+                readers[kind] = _QuantityReader(packs, *given)
+            else:
+                readers[kind] = _Reader(*given)
+    on_hand: Mapping[str, OnHand] | None = None
     arrivals = defaultdict[str, list[Arrival]](list)
     quantities = dict[str, Quantity]()
     for kind, reader in readers.items():
         if isinstance(reader, _QuantityReader):
             quantities = reader.quantities()
             continue
-        for name, rows in reader.items():
-            if kind == STOCK:
-                hands = [OnHand.of(row["stock"], row["owed"]) for row in rows]
-                on_hand[name] = sum(hands, OnHand(NONE))
-            else:
-                arrivals[name] += [
-                    Arrival(row["quantity"], row.get("due")) for row in rows
-                ]
+        if kind == STOCK:
+            on_hand = reader.hands
+            continue
+        for name, rows in reader.found.items():
+            arrivals[name] += [Arrival(row["quantity"], row.get("due")) for row in rows]
+    known.clear()
+    known |= {kind: readers[kind] for kind in EXPORTED if kind in readers}
     return Holdings(
-        on_hand if STOCK in readers else None,
+        on_hand,
         dict(arrivals),
         quantities,
         frozenset().union(*(reader.unread for reader in readers.values())),

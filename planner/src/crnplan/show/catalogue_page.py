@@ -22,12 +22,11 @@ from ..store.means import Means
 from ..plan.answer import CHOSEN, TODAY, Answer
 from ..plan.backtest.catalogue import past_of
 from ..plan.catalogue import PlannedFolder, planned_folder
-from ..plan.item import Depth
+from ..plan.item import depth_of
 from ..plan.how import Settings
 from ..plan.survey import Decided, Survey, saving_of
 from ..plan.swings import keep_swings
 from ..plan.totals import Totals
-from ..plan.one import of_month
 from ..read.catalogue_reading import CATALOGUE, missing_of
 from ..read.frames import name_of
 from ..read.item import Item
@@ -406,7 +405,7 @@ def write_item(
     own.claim(f"{ITEMS}/", in_place=True)
     (own.path / ITEMS).mkdir(exist_ok=True)
     question, path = planned.question(item), str(find_program(program))
-    depth = Depth(question, of_month(question, answer, path), path)
+    depth = depth_of(question, answer, path)
     own.write(
         f"{ITEMS}/{file_name(name)}",
         item_page(ItemWords(depth, planned.every, planned.currency)),
@@ -441,7 +440,7 @@ def report(
     orders : OrdersToday, optional
         The orders that `Plan.orders_today` gives. Without them the page has those of today by the stock of the masters, if
         these have one, and says that it is not known what is on order.
-    jobs : int, at least 1, optional
+    jobs : int, from 1 to 1,024, optional
         How many processes work; by default one for each processor.
     cluster : str or distributed.Client, optional
         The address of a Dask scheduler, or a client, whose workers work in place of processes.

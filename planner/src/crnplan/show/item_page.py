@@ -64,7 +64,8 @@ DEMAND_COLUMNS = columns_of("show", "demand")
 
 class ItemWords:
     """The words on an item. A period is a day, week, month or period (`every`); money is in a currency. `coming`
-    are the policies over coming periods, if they were asked for. `heard` is what is to be said of the files.
+    are the policies over coming periods, if they were asked for. `heard` is what is to be said of the files. Of an item
+    with a season what was decided is of the coming year (`whole`), and all else of its first month.
     """
 
     def __init__(
@@ -78,6 +79,7 @@ class ItemWords:
         self.depth, self.every, self.currency = depth, every, currency
         self.coming, self.heard = coming, heard
         self.question, self.answer = depth.question, depth.answer
+        self.whole = depth.whole
         self.item, self.settings = self.question.as_read, self.question.settings
         self.decimals = currency.decimals
         self.level = f"{100 * self.settings.level:g}%"
@@ -140,9 +142,9 @@ class ItemWords:
 
     @property
     def headline(self) -> str:
-        today, chosen = self.answer.today, self.answer.chosen
+        today, chosen = self.whole.today, self.whole.chosen
         levels = f"{today.point:,}, {today.level:,}" if today else ""
-        verdict = VERDICTS[self.answer.verdict].said.format(levels)
+        verdict = VERDICTS[self.whole.verdict].said.format(levels)
         when = f"In {self.month} below" if self.month else "Below"
         return f"{when} {chosen.point:,}, order up to {chosen.level:,}: {verdict}"
 
@@ -154,6 +156,21 @@ class ItemWords:
             return ""
         (month,) = months_of(season.every, season.stretch.first, 1).tolist()
         return MONTHS[month]
+
+    @property
+    def horizon(self) -> str:
+        """Returns for which time the figures of policies hold."""
+        return f"if {self.month} lasted" if self.month else "in the long run"
+
+    @property
+    def span(self) -> str:
+        """Returns for which time that holds which was decided."""
+        return "in the mean of the coming year" if self.month else "in the long run"
+
+    @property
+    def nearness(self) -> str:
+        """Returns how exact the theory of what was decided is."""
+        return "each month as if it lasted" if self.month else self.exactness
 
     @property
     def promise(self) -> str:
@@ -362,11 +379,10 @@ def item_page(words: ItemWords) -> str:
 
 def item_facts(words: ItemWords) -> dict[str, object]:
     """Returns what the page of an item has."""
-    depth, item, answer = words.depth, words.item, words.answer
-    (decision,) = DataTable.of(
-        DECISION_COLUMNS, [Decision.of(item, answer)], words.decimals
-    ).cells()
-    (exact,) = exact_of([(item, answer)]).cells()
+    depth, item = words.depth, words.item
+    decided_of = Decision.of(item, words.whole)
+    (decision,) = DataTable.of(DECISION_COLUMNS, [decided_of], words.decimals).cells()
+    (exact,) = exact_of([(item, words.whole)]).cells()
     doubted = dict(itertools.islice(words.doubted.items(), MOST_DOUBTED))
     regrets, decided, coming = [], [], []
     for name, row in doubted.items():

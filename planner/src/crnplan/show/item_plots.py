@@ -177,7 +177,7 @@ def season_plot(depth: Depth, every: str) -> Plot | None:
     """Returns the demand of the last year of the record as bars, and for the same periods of the coming year s, S and the
     mean of the law with its season as lines; None for an item that is not planned by a season.
     """
-    season, months = depth.question.season, depth.answer.months
+    season, months = depth.question.season, depth.whole.months
     if season is None or not months:
         return None
     names, low, high, means = list[str](), list[int](), list[int](), list[float]()

@@ -21,9 +21,10 @@ from ..crnsim.periods import Period
 from ..curve.parts import Point
 from ..decide.doubt import MOST, Doubt
 from ..decide.verdicts import Compared, Decision
-from ..errors import Refused
+from ..errors import Refused, argument
 from ..store.files import named_bytes
 from ..policies import Policy
+from ..toml.documents import shown
 from ..words import counted
 from .curves import (
     BLACK,
@@ -103,7 +104,12 @@ def blank(width: float, height: float, rows: int = 1) -> tuple[Figure, list[Axes
 
 def on_axes(draw: Callable[[Axes], str], size: Size, axes: Axes | None) -> Axes:
     """Draws on axes, or on those of a new figure of pyplot, which a notebook shows, of a size in inches. That gets the
-    title that is returned."""
+    title that is returned. Raises Refused for what are no axes."""
+    if not isinstance(axes, Axes | None):
+        raise Refused(
+            f"{argument('ax')}: {shown(axes)} is no Axes of matplotlib",
+            "give one of pyplot.subplots()",
+        )
     if axes is None:
         from matplotlib import pyplot
 

@@ -7,20 +7,21 @@ import itertools
 import math
 import re
 import tempfile
-from collections.abc import Iterable, Mapping, Sequence
+from collections.abc import Callable, Iterable, Iterator, Mapping, Sequence
 from dataclasses import dataclass, field, replace
 from fractions import Fraction
 from functools import cached_property
 from pathlib import Path
 from typing import TYPE_CHECKING, ClassVar
 
+from ..arguments import judged
 from ..errors import Refused
 from ..store.files import Folder
 from ..money import Currency
 from ..plan.catalogue import PlannedFolder, copied_folder, planned_folder
 from ..plan.risk import Risk, risks_of
 from ..plan.standing import Standing
-from ..plan.today import Group, Today, sum_of_money, today_of
+from ..plan.today import Days, Group, Today, sum_of_money
 from ..read.item import PHASE_OUT
 from ..read.items import Words
 from ..read.observed import Day, stated_day
@@ -76,6 +77,24 @@ ON_A_DAY = (
 # The tables by name, with their columns.
 TABLES = {name: columns_of("show", f"today_{name}", CELLS) for name in ON_A_DAY}
 TABLES |= {"controls": CONTROL_COLUMNS, "left_out": REJECT_COLUMNS}
+
+
+class Made(Mapping[str, DataTable]):
+    """The tables by name, each of which is made when it is asked for."""
+
+    def __init__(self, make: Callable[[str], DataTable]) -> None:
+        self._make, self._known = make, dict[str, DataTable]()
+
+    def __getitem__(self, name: str) -> DataTable:
+        if name not in self._known:
+            self._known[name] = self._make(name)
+        return self._known[name]
+
+    def __iter__(self) -> Iterator[str]:
+        return iter(TABLES)
+
+    def __len__(self) -> int:
+        return len(TABLES)
 
 
 def file_of(table: str) -> str:
@@ -145,7 +164,10 @@ class OrdersToday(Result):
         return rows_of(self, most).with_columns(URGENT)
 
     def money(self, amount: Fraction | float) -> str:
-        """Returns an amount of money with all its decimals."""
+        """Returns an amount of money with all its decimals.
+
+        :meta private:
+        """
         return self.currency.named(f"{float(amount):,.{self.currency.digits}f}")
 
     @property
@@ -162,11 +184,14 @@ class OrdersToday(Result):
             changed = len(today.changed) - omitted - added
             line += f" (the planner changed {changed:,}, added {added:,}, left out {omitted:,})"
         if not today.has_orders:
-            line += f", {WITHOUT}: say --on-order"
+            line += f", {WITHOUT}"
         return line
 
     def check(self, plan: PlannedFolder) -> None:
-        """Raises Refused if these are not the orders of a plan as it is now."""
+        """Raises Refused if these are not the orders of a plan as it is now.
+
+        :meta private:
+        """
         if self.plan != plan.digest:
             raise Refused(
                 f"{plan.path}: these orders are not those of this plan",
@@ -203,31 +228,36 @@ class OrdersToday(Result):
             if group.due
         }
 
-    @cached_property
-    def tables(self) -> dict[str, DataTable]:
-        """Returns all tables by name."""
+    def _made(self, name: str) -> DataTable:
+        """Returns a table by its name."""
         today, currency = self.today, self.currency
-        short = today.short.values()
-        rows: dict[str, Iterable[object]] = {
-            "above": self._rows(today.above),
-            "dead": today.dead,
-            "stopped": today.ended,
-            "owed": self._rows(today.owed),
-            "classes": self._groups(today.classes),
-            "suppliers": self._groups(today.suppliers),
-            "added": itertools.chain.from_iterable(
-                group.additions() for group in short
+        match name:
+            case "orders":
+                return self.table
+            case "lines":
+                return self._lines(today.suppliers)
+            case "controls":
+                return controls_of(today.controls, currency.decimals, currency.code)
+            case "left_out":
+                return rejects_of(today.rejects, self.keys)
+        rows: dict[str, Callable[[], Iterable[object]]] = {
+            "above": lambda: self._rows(today.above),
+            "dead": lambda: today.dead,
+            "stopped": lambda: today.ended,
+            "owed": lambda: self._rows(today.owed),
+            "classes": lambda: self._groups(today.classes),
+            "suppliers": lambda: self._groups(today.suppliers),
+            "added": lambda: itertools.chain.from_iterable(
+                group.additions() for group in today.short.values()
             ),
+            "at_risk": lambda: self.risks,
         }
-        tables = {name: self._table(name, things) for name, things in rows.items()}
-        return {
-            "orders": self.table,
-            **tables,
-            "lines": self._lines(today.suppliers),
-            "at_risk": self._table("at_risk", self.risks),
-            "controls": controls_of(today.controls, currency.decimals, currency.code),
-            "left_out": rejects_of(today.rejects, self.keys),
-        }
+        return self._table(name, rows[name]())
+
+    @cached_property
+    def tables(self) -> Mapping[str, DataTable]:
+        """Returns all tables by name, each of which is made when it is asked for."""
+        return Made(self._made)
 
     @property
     def files(self) -> dict[str, DataTable]:
@@ -239,7 +269,10 @@ class OrdersToday(Result):
 
     def write(self, folder: Folder) -> None:
         """Writes all tables, the order of each supplier, and the text into a folder. The order of a supplier without
-        one is removed."""
+        one is removed.
+
+        :meta private:
+        """
         files = self.files
         old = [name for name in folder.names if SUPPLIER_FILE.fullmatch(name)]
         folder.remove(*(name for name in old if name not in files))
@@ -247,6 +280,7 @@ class OrdersToday(Result):
             folder.write(name, table.lines)
         folder.write(SUMMARY, self.text)
 
+    @judged("call")
     def to_excel(self, path: str | Path) -> None:
         """Writes the orders as a workbook: a sheet with all lines, and one for each supplier with an order.
 
@@ -366,32 +400,41 @@ def rows_of(orders: OrdersToday, standings: Iterable[Standing]) -> DataTable:
     return orders._table("orders", orders._rows(standings))
 
 
-def orders_today(
-    path: Path, tables: Mapping[str, Table | None], words: Words, day: Day | str | None
-) -> OrdersToday:
-    """Returns what a planned folder, which is only read, says on a day: see `Plan.orders_today`. Tables are by kind, and
-    are read as those of the plan were, unless `words` say otherwise."""
-    with tempfile.TemporaryDirectory(prefix="crnplan-") as room, copied_folder(
-        path, Path(room)
-    ) as folder:
+class OrderDays:
+    """A planned folder, which is only read, as it is asked for orders on days. Tables are read as those of the plan were,
+    unless `words` say otherwise."""
+
+    def __init__(self, folder: PlannedFolder, words: Words) -> None:
         planned = folder.read.fact("told")
         told = merged(planned, told_of(words))
         kept = replace(
             words_from({**told, "every": folder.every}),
             is_where_needed=told.get("where") != planned.get("where"),
         )
+        self.days = Days(folder, kept)
+        self.facts = folder.every, folder.currency, folder.digest, folder.keys
+
+    def read(self) -> OrderDays:
+        """Reads the answers of the folder while that is open, and returns this."""
+        self.days.decided
+        return self
+
+    def orders(
+        self, tables: Mapping[str, Table | None], day: Day | str | None
+    ) -> OrdersToday:
+        """Returns what the folder says on a day, with tables by kind: see `Plan.orders_today`."""
         asked = stated_day("date", day) or datetime.date.today()
-        today = today_of(
-            folder,
-            folder.answers(is_whole=True),
-            tables,
-            kept,
-            asked,
-            kept.defaults.supplier_min,
-        )
-        return OrdersToday(
-            today, folder.every, folder.currency, folder.digest, folder.keys
-        )
+        return OrdersToday(self.days.today(tables, asked), *self.facts)
+
+
+def orders_today(
+    path: Path, tables: Mapping[str, Table | None], words: Words, day: Day | str | None
+) -> OrdersToday:
+    """Returns what a planned folder says on a day: see `OrderDays`."""
+    with tempfile.TemporaryDirectory(prefix="crnplan-") as room, copied_folder(
+        path, Path(room)
+    ) as folder:
+        return OrderDays(folder, words).orders(tables, day)
 
 
 def has_stock(path: Path) -> bool:

@@ -20,6 +20,7 @@ import sqlite3
 import stat
 import sys
 import tempfile
+import threading
 import weakref
 from collections.abc import Iterable, Iterator
 from pathlib import Path
@@ -265,7 +266,7 @@ def written_into(path: Path, descriptor: int) -> Iterator[IO[bytes]]:
 
 
 class Folder:
-    """A folder of one kind that is crnplan's, held by this run alone. `own_folder` gives it."""
+    """A folder of one kind that is crnplan's, held by this run alone, whose threads may share it. `own_folder` gives it."""
 
     def __init__(self, path: Path, kind: str, marker: int) -> None:
         """Takes the open marker, whose lock is held. Raises Refused if its first line is not the signature."""
@@ -286,7 +287,7 @@ class Folder:
             raise Refused(
                 f"{path}: {MARKER} is not that of a folder of crnplan {kind}; name a new folder"
             )
-        self._names = set(names)
+        self._names, self._lock = set(names), threading.RLock()
         self.close()
 
     def _keep(self) -> None:
@@ -303,22 +304,25 @@ class Folder:
         """Makes files and folders (whose names end with /) crnplan's, to be overwritten or removed. Raises Refused for
         what is there and is not crnplan's, and for a symlink at what is written `in_place`.
         """
-        new = [name for name in names if name not in self._names]
-        foreign = next(
-            (name for name in new if os.path.lexists(self.path / name)), None
-        )
+        with self._lock:
+            new = [name for name in names if name not in self._names]
+            self._check(new, names if in_place else ())
+            self._names.update(new)
+            self._keep()
+
+    def _check(self, new: Iterable[str], in_place: Iterable[str]) -> None:
+        """Raises Refused for new names at which something is, and for a symlink at what is written in place."""
+        foreign = next((it for it in new if os.path.lexists(self.path / it)), None)
         if foreign:
             raise Refused(
                 f"{self.path / foreign}: crnplan has not made it, and would overwrite it; move it away, or "
                 "name another folder"
             )
-        link = next((name for name in names if (self.path / name).is_symlink()), None)
-        if link and in_place:
+        link = next((it for it in in_place if (self.path / it).is_symlink()), None)
+        if link:
             raise Refused(
                 f"{self.path / link}: it is a symlink, which is not followed; remove it"
             )
-        self._names.update(new)
-        self._keep()
 
     def store(self, name: str) -> Path:
         """Returns the path of a file of SQLite that is written in place, and claims it. It may be one in `IN_KEPT`."""
@@ -369,21 +373,26 @@ class Folder:
 
     def room(self) -> Path:
         """Returns a folder for what is not finished, on the same disk, which `close` removes."""
-        name = next(
-            filter(UNFINISHED.fullmatch, self._names),
-            f"unfinished-{secrets.token_hex(8)}/",
-        )
-        if name not in self._names:
-            self.claim(name)
-            (self.path / name).mkdir(mode=0o700)
-        return self.path / name
+        with self._lock:
+            new = f"unfinished-{secrets.token_hex(8)}/"
+            name = next(filter(UNFINISHED.fullmatch, self._names), new)
+            if name not in self._names:
+                self.claim(name)
+                (self.path / name).mkdir(mode=0o700)
+            return self.path / name
 
     def close(self) -> None:
         """Removes what is not finished, of this run or of one that was ended by force."""
-        for name in filter(UNFINISHED.fullmatch, [*self._names]):
-            shutil.rmtree(self.path / name, ignore_errors=True)
-            self._names.remove(name)
-        self._keep()
+        with self._lock:
+            for name in filter(UNFINISHED.fullmatch, [*self._names]):
+                shutil.rmtree(self.path / name, ignore_errors=True)
+                self._names.remove(name)
+            self._keep()
+
+    def let_go(self) -> None:
+        """Has what a thread still writes here fail with OSError: another run may hold the folder now."""
+        with self._lock:
+            self._marker = -1
 
 
 class Busy(Refused):
@@ -454,6 +463,7 @@ def own_folder(path: Path, kind: str, names: Iterable[str] = ()) -> Iterator[Fol
         finally:
             with contextlib.suppress(OSError):
                 folder.close()
+            folder.let_go()
 
 
 class Room:

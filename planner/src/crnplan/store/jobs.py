@@ -212,7 +212,7 @@ class Processes(Workers):
         words: Sequence[Any],
         late: Sequence[Any] = (),
     ) -> Any:
-        while len(self.workers) < self.most:
+        if len(self.workers) < self.most:  # as many as there are batches at most
             with interrupted_later():
                 self.workers.append(worker := Worker())
             self.idle.put(worker)

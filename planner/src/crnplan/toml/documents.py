@@ -51,7 +51,7 @@ def shown(value: Any) -> str:
     if type(value) in (str, list, dict):
         text = ascii(value)
     else:
-        text = getattr(value, "spelt", str(value).lower())
+        text = getattr(value, "spelt", " ".join(str(value).lower().split()))
     return text if len(text) <= 40 else f"{text[:40]}..."
 
 

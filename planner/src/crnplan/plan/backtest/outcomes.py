@@ -138,8 +138,11 @@ class Happened:
             stocks_by_aim=(*stocks[1:],),
         )
 
-    def of_figures(self, figures: Sequence[Figures]) -> Outcome:
-        """Returns what the policies of the later periods come to, the first of them also in the record."""
-        levels = [figures[0].levels] * self.record
+    def of_figures(
+        self, figures: Sequence[Figures], before: Sequence[Levels] = ()
+    ) -> Outcome:
+        """Returns what the policies of the later periods come to. In the record are the levels `before`, or those of the
+        first of them."""
+        levels = [*before] or [figures[0].levels] * self.record
         levels += [policy.levels for policy in figures]
         return self.outcome(levels, [(policy.cost, policy.fill) for policy in figures])
