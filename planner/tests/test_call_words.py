@@ -121,7 +121,7 @@ SAME = [
     Same("orders_today", "stock", pd.Series([3], index=[1]), None),
     Same("orders_today", "stock", {1: 3}, None),
     Same("orders_today", "placed", {1: 0}, pd.DataFrame({"item": [1], "quantity": 0})),
-    Same("orders_today", "date", pd.Timestamp.today(), None),
+    Same("orders_today", "date", pd.Timestamp("2026-03-02 13:00"), "2026-03-02"),
     Same("sweep", "s", np.array([10]), [10]),
     Same("fit_demand", "box", np.int64(2), 2),
 ]

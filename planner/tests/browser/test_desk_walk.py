@@ -18,6 +18,7 @@ from selenium.common.exceptions import (
 )
 from selenium.webdriver.common.by import By
 from selenium.webdriver.remote.webelement import WebElement
+from selenium.webdriver.support.expected_conditions import staleness_of
 from selenium.webdriver.support.ui import Select
 
 from planner.tests.browser.browser import WIDE, Browser
@@ -74,13 +75,16 @@ class Walk:
         return found[0]
 
     def press(self, text: str, within: str = "main") -> None:
-        """Presses the button with a text, the first of a part of the page."""
+        """Presses the button with a text, the first of a part of the page, and waits for the answer."""
 
-        def press() -> None:
+        def press() -> WebElement:
             buttons = self.all(f"{within} button")
-            next(button for button in buttons if button.text == text).click()
+            found = next(button for button in buttons if button.text == text)
+            found.click()
+            return found
 
-        self.seen(press)
+        has_left = staleness_of(self.seen(press))
+        wait_for(lambda: bool(has_left(self.driver)))
         assert "This can't be done" not in self.text(), self.text()
 
     def text(self) -> str:
