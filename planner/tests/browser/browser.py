@@ -26,7 +26,9 @@ SWITCHES = """--headless=new --no-sandbox --disable-gpu --disable-dev-shm-usage 
     --no-default-browser-check --disable-extensions --disable-breakpad --disable-background-networking
     --disable-component-update --disable-default-apps --disable-domain-reliability --disable-sync --no-pings
     --hide-scrollbars --force-color-profile=srgb --lang=en-US""".split() + [
-    "--host-resolver-rules=MAP * ~NOTFOUND, EXCLUDE 127.0.0.1"
+    "--host-resolver-rules=MAP * ~NOTFOUND, EXCLUDE 127.0.0.1",
+    # Elements have `computedName` and `computedRole`, as a screen reader is told them.
+    "--enable-blink-features=ComputedAccessibilityInfo",
 ]
 
 
@@ -94,6 +96,8 @@ class Browser:
         self.folder, self._pdftotext = folder, paths["pdftotext"]
         # Without it a page that is loaded later may have no focus to show.
         self.command("Emulation.setFocusEmulationEnabled", enabled=True)
+        # Without it all names of a page are computed anew for each of its elements.
+        self.command("Accessibility.enable")
         self._messages: list[str] = []
         self._requests: list[str] = []
 

@@ -266,11 +266,22 @@ const rules = (() => {
     ...all(DRAWN).filter((it) => !isHidden(it) && !it.parentElement.closest("[role=img]")),
     ...all(CONTROLS).filter((it) => it.tabIndex >= 0 && !isHidden(it))];
 
+  // Pictures and controls need a name, as the browser computes it: WCAG 1.1.1 and 4.1.2.
+  function names() {
+    return named(toName().filter((it) => !it.computedName.trim()).map((it) => `${place(it)}: it has no name`));
+  }
+
   // Returns parts of tables with the role of each, which it must keep whatever its display is.
   const partsOfTables = () => all("table").flatMap((table) => [
     ["table", table], ["row", table.querySelector("tbody tr")],
     ["columnheader", table.querySelector("th[scope=col]")], ["cell", table.querySelector("tbody td")],
   ]).filter(([, element]) => element && isShown(element));
+
+  // The browser must tell a screen reader that parts of tables are such: WCAG 1.3.1.
+  function roles() {
+    return named(partsOfTables().filter(([role, element]) => element.computedRole !== role)
+      .map(([role, element]) => `${place(element)}: its role is ${element.computedRole}, not ${role}`));
+  }
 
   // Of a group of choices Tab reaches the chosen one, and arrows the others.
   const isOther = (it) => it.type === "radio" && !it.checked
@@ -288,16 +299,20 @@ const rules = (() => {
 
   // Notes which controls get the focus from now on, and returns how many there are.
   function watch() {
+    // The next Tab begins at the top, and nothing has a focus by which its edge is another.
+    document.body.tabIndex = -1;
+    document.body.focus();
+    document.activeElement.blur();
+    document.body.removeAttribute("tabindex");
     const edges = new Map(toReach().map((it) => [it, edge(it)]));
     const isSeen = new Map();
     document.addEventListener("focusin", ({target}) => isSeen.set(target, edge(target) !== edges.get(target)));
     const fault = (it) => isSeen.has(it) ? "its focus is not seen" : "Tab does not reach it";
     window.unreached = (most) => named([...edges.keys()].slice(0, most).filter((it) => !isSeen.get(it))
       .map((it) => `${place(it)}: ${fault(it)}`));
-    document.activeElement.blur();
     return edges.size;
   }
 
-  return {place, overflow, clipped, overlaps, cards, contrast, tables, headings, page, policy, regions, labels, ids, toName, partsOfTables,
+  return {place, overflow, clipped, overlaps, cards, contrast, tables, headings, page, policy, regions, labels, ids, names, roles,
     watch};
 })();

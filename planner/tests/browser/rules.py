@@ -8,7 +8,7 @@ from selenium.webdriver.common.keys import Keys
 
 from planner.tests.browser.browser import Browser, Form
 
-# Of equal elements, such as the links of thousands of rows, so many are judged one by one.
+# Of the links of thousands of rows and other controls, so many are reached by Tab.
 MOST = 80
 # A browser may stop at so many places more, such as what scrolls.
 STOPS = 10
@@ -40,21 +40,6 @@ def requests(browser: Browser) -> Faults:
     )
 
 
-def names(browser: Browser) -> Faults:
-    """Yields pictures and controls without a name, as the browser computes it (WCAG 2.1, 1.1.1 and 4.1.2)."""
-    for element in browser.run("return rules.toName();")[:MOST]:
-        if not element.accessible_name.strip():
-            yield f"{browser.run('return rules.place(arguments[0]);', element)}: it has no name"
-
-
-def roles(browser: Browser) -> Faults:
-    """Yields parts of tables that the browser does not tell a screen reader as such (WCAG 2.1, 1.3.1)."""
-    for role, element in browser.run("return rules.partsOfTables();")[:MOST]:
-        if element.aria_role != role:
-            place = browser.run("return rules.place(arguments[0]);", element)
-            yield f"{place}: its role is {element.aria_role}, not {role}"
-
-
 def keyboard(browser: Browser) -> Faults:
     """Yields controls that Tab does not reach, or whose focus is not seen (WCAG 2.1, 2.1.1 and 2.4.7)."""
     count = min(browser.run("return rules.watch();"), MOST)
@@ -65,12 +50,12 @@ def keyboard(browser: Browser) -> Faults:
 RULES: dict[str, Rule] = {
     "console": console,
     "requests": requests,
-    "names": names,
-    "roles": roles,
     "keyboard": keyboard,
     **{
         it: by_script(it)
         for it in (
+            "names",
+            "roles",
             "overflow",
             "clipped",
             "overlaps",

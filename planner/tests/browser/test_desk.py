@@ -14,7 +14,7 @@ import pytest
 
 from crnplan.desk.kept import PLANS, Begun, Override, Placed
 from crnplan.desk.work import PLANNING
-from planner.tests.browser.browser import WIDE, Browser, Form
+from planner.tests.browser.browser import Browser, Form
 from planner.tests.browser.conftest import HOSTILE, MARKUP
 from planner.tests.browser.rules import RULES, faults_of
 from planner.tests.conftest import shared
@@ -92,9 +92,9 @@ def address(desk: Opened, page: str) -> str:
     return f"http://{desk.host}{page}"
 
 
-def show(browser: Browser, address: str, form: Form = WIDE) -> None:
+def show(browser: Browser, address: str) -> None:
     """Shows a page, with the pictures that its script loads."""
-    browser.visit(address, form)
+    browser.visit(address)
     drawn = "return document.getElementById('draw') === null;"
     wait_for(lambda: bool(browser.run(drawn)))
 
@@ -122,8 +122,9 @@ def test_pages_have_no_fault(browser: Browser, desk: Opened, check_all: Check) -
 
     def judged() -> Iterator[tuple[str, object]]:
         for page in pages:
+            show(browser, address(desk, page))
             for form in FORMS:
-                show(browser, address(desk, page), form)
+                browser.show(form)
                 found = faults(browser, desk, form)
                 yield f"{page} {form}", "; ".join(found) or True
 

@@ -116,6 +116,10 @@ class Walk:
         return shlex.split(html.unescape(text))[1:]
 
 
+# What a planner does with a plan of a company, and perhaps with new files in a folder.
+Then = Callable[[Walk, str, Path], None]
+
+
 def drop(walk: Walk, paths: list[Path]) -> None:
     """Drops files on the page, all at once."""
     walk.go("files")
@@ -185,7 +189,7 @@ def made(company: str, folder: Path) -> dict[str, Path]:
     return {"demand": export.demand, "items": export.masters, **today}
 
 
-def plan(walk: Walk, program: Path) -> None:
+def plan(walk: Walk) -> None:
     """Begins to plan, stops it, and goes on."""
     walk.go("plan")
     walk.press("Begin to plan")
@@ -197,7 +201,7 @@ def plan(walk: Walk, program: Path) -> None:
     assert f"{len(ALL)} items" in walk.text(), walk.text()
 
 
-def override(walk: Walk, program: Path) -> None:
+def override(walk: Walk, company: str, folder: Path) -> None:
     """Sets levels for the first item of the result, and plans again: the item then has these levels."""
     walk.go("result")
     link = walk.all("table.listed tbody a")[0]
@@ -218,6 +222,7 @@ def override(walk: Walk, program: Path) -> None:
 
 def next_week(walk: Walk, company: str, folder: Path) -> None:
     """Drops the files of the next week, which have other names: they are known, and a plan after the last one is made."""
+    walk.go("files")
     kinds, files = sorted(walk.kinds().values()), made(company, folder)
     files = {
         kind: path.rename(path.with_stem(f"{path.stem} of week 2"))
@@ -291,9 +296,14 @@ def scriptless(tmp_path: Path) -> Iterator[Browser]:
 
 
 def walked(
-    company: str, browser: Browser, tmp_path: Path, crnplan: Command, program: Path
+    company: str,
+    then: Then,
+    browser: Browser,
+    tmp_path: Path,
+    crnplan: Command,
+    program: Path,
 ) -> None:
-    """Walks from the exports of a company to its orders, and on to the next week."""
+    """Walks from the exports of a company to a plan, goes on from there, and orders."""
     with opened(tmp_path / "desk") as front:
         front.desk.keep_words(QUICK)
     desk = Opened(tmp_path, "--program", program)
@@ -303,26 +313,29 @@ def walked(
         drop(walk, [*files.values()])
         correct(walk, company, files)
         settle(walk, company)
-        plan(walk, program)
+        plan(walk)
+        then(walk, company, tmp_path / "week 2")
         order(walk, crnplan, tmp_path / "orders")
-        override(walk, program)
-        order(walk, crnplan, tmp_path / "orders with levels")
-        walk.go("files")
-        next_week(walk, company, tmp_path / "week 2")
-        order(walk, crnplan, tmp_path / "orders of week 2")
         assert browser.messages == []
     finally:
         desk.close()
 
 
-@pytest.mark.parametrize("company", ["wide", "warehouses"])
+@pytest.mark.parametrize(
+    ("company", "then"), [("wide", override), ("warehouses", next_week)]
+)
 def test_way_of_a_planner(
-    company: str, browser: Browser, tmp_path: Path, crnplan: Command, program: Path
+    company: str,
+    then: Then,
+    browser: Browser,
+    tmp_path: Path,
+    crnplan: Command,
+    program: Path,
 ) -> None:
-    walked(company, browser, tmp_path, crnplan, program)
+    walked(company, then, browser, tmp_path, crnplan, program)
 
 
 def test_way_of_a_planner_without_scripts(
     scriptless: Browser, tmp_path: Path, crnplan: Command, program: Path
 ) -> None:
-    walked("japanese", scriptless, tmp_path, crnplan, program)
+    walked("japanese", override, scriptless, tmp_path, crnplan, program)

@@ -16,6 +16,7 @@ from crnplan.desk.work import STOPPED, TESTING
 from crnplan.read.overrides import SET_LEVELS, Override as Stated
 from crnplan.read.overriding import read_overrides
 from crnplan.read.told import words_of
+from planner.tests.conftest import shared
 from planner.tests.desk.conftest import (
     MADE_PLAN,
     Planner,
@@ -53,21 +54,27 @@ def plan(planner: Planner, **fields: str) -> None:
     assert planner.wait() == []
 
 
-@pytest.fixture(scope="module")
-def buyer(tmp_path_factory: pytest.TempPathFactory, program: Path) -> Iterator[Planner]:
-    """Returns who asks a desk with a plan of four items."""
+def planned(folder: Path, program: Path) -> None:
+    """Makes a desk with a plan of four items."""
     rows = ["item,date,quantity"]
     for place, name in enumerate("ABR", 1):
         for week in range(0, WEEKS, place):
             day = MONDAY + datetime.timedelta(weeks=week)
             rows.append(f"{name},{day},{1 + week * place % 4}")
-    with opened(tmp_path_factory.mktemp("items") / "desk", program) as front:
+    with opened(folder / "desk", program) as front:
         planner = Planner(front)
         drop(planner, "demand", "\n".join([*rows, ""]))
         drop(planner, "items", MASTERS)
         planner.desk.keep_words(QUICK)
         plan(planner)
-        yield planner
+
+
+@pytest.fixture(scope="module")
+def buyer(tmp_path_factory: pytest.TempPathFactory, program: Path) -> Iterator[Planner]:
+    """Returns who asks such a desk."""
+    made = shared(tmp_path_factory, "buyer", lambda folder: planned(folder, program))
+    with opened(made / "desk", program) as front:
+        yield Planner(front)
 
 
 @pytest.fixture
@@ -95,11 +102,6 @@ def asked(planner: Planner, room: Path, **query: Any) -> dict[str, list[str]]:
     """Returns the rows of the table of what if, by their names."""
     _, *rows = item_page_of(planner, room, **query).tables["What if?"]
     return {name: cells for name, *cells in rows}
-
-
-def test_result_is_computed_when_a_plan_ends(buyer: Planner) -> None:
-    """A planner does not wait for it."""
-    wait_for(lambda: "listed" in buyer.front.known)
 
 
 def test_item_has_what_its_page_has(buyer: Planner, tmp_path: Path) -> None:
@@ -240,7 +242,8 @@ def levels_today(planner: Planner) -> dict[str, tuple[int, int]]:
 def test_override_is_ordered_by_once_planned_again(
     buyer: Planner, tmp_path: Path
 ) -> None:
-    """What a planner sets counts after planning again, stands on Result, and is ended by a row with nothing."""
+    """What a planner sets counts after planning again, stands on Result, and is ended by a row with nothing. Result is
+    computed when a plan ends, so that nobody waits for it."""
     before = levels_today(buyer)
     fields = [
         SET,
@@ -256,7 +259,9 @@ def test_override_is_ordered_by_once_planned_again(
         ["B", "do not order", "quality <stop>", "change or end"],
     ]
     assert levels_today(buyer) == before
+    buyer.front.known.pop("listed", None)
     plan(buyer, way="again")
+    wait_for(lambda: "listed" in buyer.front.known)
     after = levels_today(buyer)
     assert after["A"] == (30, 70) and "B" in before and "B" not in after
     page = item_page_of(buyer, tmp_path, item="B")

@@ -3,18 +3,19 @@ from __future__ import annotations
 
 import os
 import re
+from collections.abc import Iterator
 from pathlib import Path
 from typing import Any
 
 import pytest
 
 from crnplan.desk import results
-from crnplan.desk.front import Front
 from crnplan.desk.orders import MOST_LINES
 from crnplan.desk.results import LIST, ROWS
 from crnplan.plan import risk, standing
 from crnplan.plan.catalogue import ANSWERS, PlannedFolder
 from crnplan.plan.today import Days
+from planner.tests.conftest import shared
 from planner.tests.desk.conftest import (
     MADE_PLAN,
     Planner,
@@ -30,15 +31,20 @@ RESULTS = "/result", "/result?sort=item", "/result?verdict=cheaper&words=P0001"
 PAGES = "/files /settings /plan /result /result?sort=item /result?words=P /today /past".split()
 
 
+def make_large(path: Path) -> None:
+    """Makes a desk with a plan of many items, all of which are out of stock."""
+    with opened(path / "desk") as front:
+        add_made_plan(front, ITEMS)
+        front.desk.add_file("stock.csv", file_of(STOCK.encode(), "stock.csv")[0])
+        (file,) = front.desk.state.files
+        front.desk.set_file(file.name, "stock", "", True)
+
+
 @pytest.fixture
-def large(front: Front) -> Planner:
-    """Returns who asks a desk with a plan of many items, all of which are out of stock."""
-    add_made_plan(front, ITEMS)
-    planner = Planner(front)
-    front.desk.add_file("stock.csv", file_of(STOCK.encode(), "stock.csv")[0])
-    (file,) = front.desk.state.files
-    front.desk.set_file(file.name, "stock", "", True)
-    return planner
+def large(tmp_path_factory: pytest.TempPathFactory) -> Iterator[Planner]:
+    """Returns who asks such a desk."""
+    with opened(shared(tmp_path_factory, "large desk", make_large) / "desk") as front:
+        yield Planner(front)
 
 
 def test_pages_are_small(large: Planner) -> None:
