@@ -24,7 +24,7 @@ from selenium.webdriver.support.ui import Select
 from planner.tests.browser.browser import WIDE, Browser
 from planner.tests.browser.test_desk import leaving
 from planner.tests.conftest import Command, rows_of
-from planner.tests.desk.conftest import QUICK, opened, wait_for
+from planner.tests.desk.conftest import QUICK, held, opened, wait_for
 from planner.tests.desk.monday import ALL, EXPORTS, MONDAY
 from planner.tests.desk.opened import Opened
 
@@ -130,14 +130,15 @@ def drop(walk: Walk, paths: list[Path]) -> None:
 
 
 def correct(walk: Walk, company: str, paths: dict[str, Path]) -> None:
-    """Says how the files of a company are written, and which column of the masters has the price."""
-    for path in paths.values() if company in ENCODED else ():
+    """Says how the files of a company are written, and which column of the masters has the price. Each answer shows what
+    was said before, while the files are read anew."""
+    encoded = paths.values() if company in ENCODED else ()
+    for path in encoded:
         part = walk.file(path.name)
         if not walk.all(f"{part} details[open]"):
             walk.all(f"{part} summary")[0].click()
         Select(walk.all(f"{part} [name=encoding]")[0]).select_by_value(ENCODED[company])
         walk.press("Save", part)
-        walk.go("files")
     if company in PRICES:
         part = walk.file(paths["items"].name)
         names = [it.text for it in walk.all(f"{part} thead .data")]
@@ -145,13 +146,12 @@ def correct(walk: Walk, company: str, paths: dict[str, Path]) -> None:
         assert Select(role).first_selected_option.text == "not used"
         Select(role).select_by_value("price")
         walk.press("Save", part)
-        walk.go("files")
-    for path in paths.values() if company in ENCODED else ():
+    for path in encoded:
         part = walk.file(path.name)
         for sign in walk.all(f"{part} [name^=decimal]"):
             Select(sign).select_by_value(".")
         walk.press("Save", part)
-        walk.go("files")
+    walk.go("files")
 
 
 def settle(walk: Walk, company: str) -> None:
@@ -189,11 +189,12 @@ def made(company: str, folder: Path) -> dict[str, Path]:
     return {"demand": export.demand, "items": export.masters, **today}
 
 
-def plan(walk: Walk) -> None:
-    """Begins to plan, stops it, and goes on."""
+def plan(walk: Walk, hold: Path) -> None:
+    """Begins to plan, stops it before the program goes on, and goes on."""
     walk.go("plan")
     walk.press("Begin to plan")
     walk.press("Stop", ".work")
+    hold.unlink()
     walk.go("plan")
     assert "The plan was stopped" in walk.text()
     walk.press("Go on")
@@ -306,14 +307,14 @@ def walked(
     """Walks from the exports of a company to a plan, goes on from there, and orders."""
     with opened(tmp_path / "desk") as front:
         front.desk.keep_words(QUICK)
-    desk = Opened(tmp_path, "--program", program)
+    desk = Opened(tmp_path, "--program", held(tmp_path, program))
     try:
         desk.enter()
         walk, files = Walk(browser, desk), made(company, tmp_path / "week 1")
         drop(walk, [*files.values()])
         correct(walk, company, files)
         settle(walk, company)
-        plan(walk)
+        plan(walk, tmp_path / "hold")
         then(walk, company, tmp_path / "week 2")
         order(walk, crnplan, tmp_path / "orders")
         assert browser.messages == []

@@ -16,6 +16,7 @@ from crnplan.desk.kept import DESK, PLANS, Desk
 from crnplan.desk.safety import TOKEN, Secret
 from crnplan.desk.server import application, rooms_in
 from crnplan.store.files import own_folder
+from planner.tests.conftest import script
 from planner.tests.desk.monday import Export
 from planner.tests.show.made_catalogue import made_folder
 
@@ -46,6 +47,14 @@ def wait_for(is_true: Callable[[], bool]) -> None:
     while not is_true():
         assert time.monotonic() < end, "it took too long"
         time.sleep(0.02)
+
+
+def held(folder: Path, program: Path) -> Path:
+    """Returns a program that waits while there is a file `hold` in its folder, and makes that file."""
+    hold = folder / "hold"
+    hold.touch()
+    lines = f'while [ -e "{hold}" ]; do sleep 0.05; done\nexec "{program}"'
+    return script(folder / "held", lines)
 
 
 class Planner:

@@ -20,7 +20,7 @@ from crnplan.errors import Refused
 from crnplan.read.catalogue_reading import CATALOGUE
 from crnplan.store.files import own_folder, read_folder
 from planner.tests.conftest import Command
-from planner.tests.desk.conftest import LONGEST, add_export, wait_for
+from planner.tests.desk.conftest import LONGEST, add_export, held, wait_for
 from planner.tests.desk.conftest import opened as in_process
 from planner.tests.desk.monday import warehouses
 from planner.tests.desk.opened import Opened
@@ -109,6 +109,7 @@ def test_killed_desk_goes_on(tmp_path: Path, program: Path, crnplan: Command) ->
     """
     with in_process(tmp_path / "desk") as front:
         add_export(front, warehouses(tmp_path))
+    program = held(tmp_path, program)
     first = Opened(tmp_path, "--program", program)
     first.enter()
     assert first.post("/plan/begin", way="alone")[0] == 303
@@ -121,6 +122,7 @@ def test_killed_desk_goes_on(tmp_path: Path, program: Path, crnplan: Command) ->
     assert len(processes) > 1
     first.process.kill()
     first.process.wait()
+    (tmp_path / "hold").unlink()
 
     second = Opened(tmp_path, "--program", program)
     second.enter()
