@@ -38,7 +38,6 @@ from crnplan.read.item import NEW, Item
 from crnplan.words import sentence
 from planner.tests.plan.items import alone, item_of
 
-RANDOM = np.random.default_rng(5)
 WAVE = tuple((1 + 0.5 * np.sin(2 * math.pi * np.arange(MONTHS) / MONTHS)).tolist())
 SEASONS = Seasons("week", {"warm": Index(WAVE, 0.001, 1.0, 2)})
 FIRST = period_of(datetime.date(2022, 1, 3), "week")  # the week of 3 to 9 January
@@ -155,7 +154,7 @@ def test_item_without_past() -> None:
 
 def test_own_season() -> None:
     """An item with a clear season of its own has that in place of that of its class."""
-    counts = RANDOM.poisson(200 * FACTORS[26:182]).tolist()
+    counts = np.random.default_rng(5).poisson(200 * FACTORS[26:182]).tolist()
     item = seasonal(counts=tuple(counts))
     index = SEASONS.of_item(item)
     assert index and SEASONS.is_own(item, index)
@@ -170,10 +169,10 @@ def test_own_season() -> None:
 def test_classes_whose_items_differ() -> None:
     """Of two years, an item whose class is seen to differ has its own season, and one of another class that of its class.
     What was learned is the same if it is read again."""
-    items = list[Item]()
+    items, source = list[Item](), np.random.default_rng(5)
     for place in range(24):
         group, turn = ("mixed", "warm")[place % 2], 26 * (place % 4 == 2)
-        counts = RANDOM.poisson(200 * FACTORS[turn : turn + 104]).tolist()
+        counts = source.poisson(2_000 * FACTORS[turn : turn + 104]).tolist()
         items.append(seasonal(counts=tuple(counts), group=group))
     seasons = Seasons.of("week", items)
     assert [*seasons.classes] == ["warm"] and [*seasons.own] == ["mixed"]
