@@ -30,9 +30,12 @@ PROGRAM = TOP / "crates" / "crnsim" / "out" / "crnsim"
 CASES = "cases"
 LOCK = "serial_lock"
 # The properties of a run that have which lines are run, and what traces them; and the folders of the tests whose lines
-# count: all that call crnplan in this process. Others would take twice the processor time.
+# count: all that call crnplan in this process. Others would take twice the processor time, and so would those in a
+# browser, whose lines others run: not even the processes that they start are measured.
 MEASURED, TRACER = "measured_lines", "tracer"
-COUNTED = "planner", "tests/documents"
+COUNTED, UNMEASURED = ("planner", "tests/documents"), ("planner/tests/browser",)
+# By this variable a process of Python is measured from its start.
+STARTED = "COVERAGE_PROCESS_START"
 # A worker of a parallel run has at most so many tests waiting, and gets more if half of them are done.
 MOST_WAITING = 6
 # A failure names so many of its cases, and says how many more there are.
@@ -147,6 +150,11 @@ def is_long(item: pytest.Item) -> bool:
     return item.get_closest_marker("timeout") is not None
 
 
+def is_in(item: pytest.Item, folders: Iterable[str]) -> bool:
+    """Returns whether a test is in one of some folders of the repository."""
+    return any(item.path.is_relative_to(TOP / it) for it in folders)
+
+
 def is_serial(item: pytest.Item) -> bool:
     """Returns whether a test must run alone."""
     return item.get_closest_marker("serial") is not None
@@ -155,10 +163,12 @@ def is_serial(item: pytest.Item) -> bool:
 @pytest.hookimpl(hookwrapper=True, tryfirst=True)
 def pytest_runtest_protocol(item: pytest.Item) -> Iterator[None]:
     """Runs a test, in a worker under a lock that all share but those that run alone. Waiting is not timed."""
-    measured = getattr(item.config, MEASURED, None)
+    measured, started = getattr(item.config, MEASURED, None), ""
     if measured:  # A test may have taken the measurement away.
-        is_counted = any(item.path.is_relative_to(TOP / it) for it in COUNTED)
+        is_left_out = is_in(item, UNMEASURED)
+        is_counted = is_in(item, COUNTED) and not is_left_out
         sys.settrace(getattr(item.config, TRACER) if is_counted else None)
+        started = os.environ.pop(STARTED, "") if is_left_out else ""
     if measured and item.config.getoption("--by-test"):
         measured.switch_context(item.nodeid)
     path = getattr(item.config, "workerinput", {}).get(LOCK)
@@ -166,6 +176,8 @@ def pytest_runtest_protocol(item: pytest.Item) -> Iterator[None]:
         if file:
             fcntl.flock(file, fcntl.LOCK_EX if is_serial(item) else fcntl.LOCK_SH)
         yield
+    if started:
+        os.environ[STARTED] = started
 
 
 def pytest_terminal_summary(terminalreporter: Any) -> None:
