@@ -12,10 +12,7 @@ from pathlib import Path
 from typing import TypeVar
 
 import pytest
-from selenium.common.exceptions import (
-    NoSuchElementException,
-    StaleElementReferenceException,
-)
+from selenium.common.exceptions import WebDriverException
 from selenium.webdriver.common.by import By
 from selenium.webdriver.remote.webelement import WebElement
 from selenium.webdriver.support.expected_conditions import staleness_of
@@ -41,8 +38,8 @@ REASON = "<img src=x onerror=alert(1)> shelf"
 
 
 pytestmark = pytest.mark.timeout(600)
-# What is raised if a page is loaded anew while one looks at it.
-ANEW = NoSuchElementException, StaleElementReferenceException, StopIteration
+# What is raised if a page is loaded anew while one looks at it: no element, one that is gone, or one of no document.
+ANEW = WebDriverException, StopIteration
 T = TypeVar("T")
 
 
@@ -84,7 +81,7 @@ class Walk:
             return found
 
         has_left = staleness_of(self.seen(press))
-        wait_for(lambda: bool(has_left(self.driver)))
+        wait_for(lambda: self.seen(lambda: bool(has_left(self.driver))))
         assert "This can't be done" not in self.text(), self.text()
 
     def text(self) -> str:
