@@ -27,7 +27,7 @@ SWITCHES = """--headless=new --no-sandbox --disable-gpu --disable-dev-shm-usage 
     --disable-component-update --disable-default-apps --disable-domain-reliability --disable-sync --no-pings
     --hide-scrollbars --force-color-profile=srgb --lang=en-US""".split() + [
     "--host-resolver-rules=MAP * ~NOTFOUND, EXCLUDE 127.0.0.1",
-    # Elements have `computedName` and `computedRole`, as a screen reader is told them.
+    # With it an element says the name and the role that a screen reader is told.
     "--enable-blink-features=ComputedAccessibilityInfo",
 ]
 

@@ -115,6 +115,7 @@ class Walk:
 
 # What a planner does with a plan of a company, and perhaps with new files in a folder.
 Then = Callable[[Walk, str, Path], None]
+Walked = Callable[[Browser, str, Then], None]
 
 
 def drop(walk: Walk, paths: list[Path]) -> None:
@@ -293,47 +294,38 @@ def scriptless(tmp_path: Path) -> Iterator[Browser]:
     assert started.close() == []
 
 
-def walked(
-    company: str,
-    then: Then,
-    browser: Browser,
-    tmp_path: Path,
-    crnplan: Command,
-    program: Path,
-) -> None:
-    """Walks from the exports of a company to a plan, goes on from there, and orders."""
-    with opened(tmp_path / "desk") as front:
-        front.desk.keep_words(QUICK)
-    desk = Opened(tmp_path, "--program", held(tmp_path, program))
-    try:
-        desk.enter()
-        walk, files = Walk(browser, desk), made(company, tmp_path / "week 1")
-        drop(walk, [*files.values()])
-        correct(walk, company, files)
-        settle(walk, company)
-        plan(walk, tmp_path / "hold")
-        then(walk, company, tmp_path / "week 2")
-        order(walk, crnplan, tmp_path / "orders")
-        assert browser.messages == []
-    finally:
-        desk.close()
+@pytest.fixture
+def walked(tmp_path: Path, crnplan: Command, program: Path) -> Walked:
+    """Returns a function that walks in a browser from the exports of a company to a plan, goes on from there, and orders."""
+
+    def walked(browser: Browser, company: str, then: Then) -> None:
+        with opened(tmp_path / "desk") as front:
+            front.desk.keep_words(QUICK)
+        desk = Opened(tmp_path, "--program", held(tmp_path, program))
+        try:
+            desk.enter()
+            walk, files = Walk(browser, desk), made(company, tmp_path / "week 1")
+            drop(walk, [*files.values()])
+            correct(walk, company, files)
+            settle(walk, company)
+            plan(walk, tmp_path / "hold")
+            then(walk, company, tmp_path / "week 2")
+            order(walk, crnplan, tmp_path / "orders")
+            assert browser.messages == []
+        finally:
+            desk.close()
+
+    return walked
 
 
 @pytest.mark.parametrize(
     ("company", "then"), [("wide", override), ("warehouses", next_week)]
 )
 def test_way_of_a_planner(
-    company: str,
-    then: Then,
-    browser: Browser,
-    tmp_path: Path,
-    crnplan: Command,
-    program: Path,
+    browser: Browser, company: str, then: Then, walked: Walked
 ) -> None:
-    walked(company, then, browser, tmp_path, crnplan, program)
+    walked(browser, company, then)
 
 
-def test_way_of_a_planner_without_scripts(
-    scriptless: Browser, tmp_path: Path, crnplan: Command, program: Path
-) -> None:
-    walked("japanese", override, scriptless, tmp_path, crnplan, program)
+def test_way_of_a_planner_without_scripts(scriptless: Browser, walked: Walked) -> None:
+    walked(scriptless, "japanese", override)
