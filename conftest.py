@@ -29,11 +29,20 @@ PROGRAM = TOP / "crates" / "crnsim" / "out" / "crnsim"
 # The property of a test that stands for so many cases.
 CASES = "cases"
 LOCK = "serial_lock"
-# The properties of a run that have which lines are run, and what traces them; and the folders of the tests whose lines
-# count: all that call crnplan in this process. Others would take twice the processor time, and so would those in a
-# browser, whose lines others run: not even the processes that they start are measured.
+# The properties of a run that have which lines are run, and what traces them; and how the names of the tests begin whose
+# lines count: all that call crnplan in this process. Others would take twice the processor time, and so would those in a
+# browser and others that take long, whose lines others run: not even the processes that they start are measured, unless it
+# is asked which test runs a line.
 MEASURED, TRACER = "measured_lines", "tracer"
-COUNTED, UNMEASURED = ("planner", "tests/documents"), ("planner/tests/browser",)
+COUNTED = "planner/", "tests/documents/"
+UNMEASURED = (
+    "planner/tests/browser/",
+    "planner/tests/catalogue/test_interrupted.py",
+    "planner/tests/crnsim/test_own_starts.py",
+    "planner/tests/read/test_alike.py",
+    "planner/tests/read/test_tiny.py",
+    "tests/documents/test_commands.py",
+)
 # By this variable a process of Python is measured from its start.
 STARTED = "COVERAGE_PROCESS_START"
 # A worker of a parallel run has at most so many tests waiting, and gets more if half of them are done.
@@ -140,9 +149,10 @@ def pytest_xdist_make_scheduler(config: pytest.Config, log: Any) -> Any:
 
 
 def pytest_collection_modifyitems(items: list[pytest.Item]) -> None:
-    """Puts the tests that run alone last, and first those that may take longer than others, so that no worker ends with
-    one. The others stay in their order."""
-    items.sort(key=lambda item: (is_serial(item), not is_long(item)))
+    """Puts the tests that run alone last, and before them those whose lines are not measured: what a process computes once
+    and keeps is then computed under measurement. Of each part those that may take longer than others come first, so that
+    no worker ends with one. The others stay in their order."""
+    items.sort(key=lambda it: (is_serial(it), is_unmeasured(it), not is_long(it)))
 
 
 def is_long(item: pytest.Item) -> bool:
@@ -150,9 +160,9 @@ def is_long(item: pytest.Item) -> bool:
     return item.get_closest_marker("timeout") is not None
 
 
-def is_in(item: pytest.Item, folders: Iterable[str]) -> bool:
-    """Returns whether a test is in one of some folders of the repository."""
-    return any(item.path.is_relative_to(TOP / it) for it in folders)
+def is_unmeasured(item: pytest.Item) -> bool:
+    """Returns whether a test is one whose lines are not measured."""
+    return item.nodeid.startswith(UNMEASURED)
 
 
 def is_serial(item: pytest.Item) -> bool:
@@ -164,12 +174,13 @@ def is_serial(item: pytest.Item) -> bool:
 def pytest_runtest_protocol(item: pytest.Item) -> Iterator[None]:
     """Runs a test, in a worker under a lock that all share but those that run alone. Waiting is not timed."""
     measured, started = getattr(item.config, MEASURED, None), ""
+    is_by_test = item.config.getoption("--by-test")
     if measured:  # A test may have taken the measurement away.
-        is_left_out = is_in(item, UNMEASURED)
-        is_counted = is_in(item, COUNTED) and not is_left_out
+        is_left_out = is_unmeasured(item) and not is_by_test
+        is_counted = item.nodeid.startswith(COUNTED) and not is_left_out
         sys.settrace(getattr(item.config, TRACER) if is_counted else None)
         started = os.environ.pop(STARTED, "") if is_left_out else ""
-    if measured and item.config.getoption("--by-test"):
+    if measured and is_by_test:
         measured.switch_context(item.nodeid)
     path = getattr(item.config, "workerinput", {}).get(LOCK)
     with open(path, encoding="ascii") if path else contextlib.nullcontext() as file:
