@@ -18,6 +18,13 @@ from tests.runs import TOP
 EXAMPLES = TOP / "examples"
 SECONDS = 200
 TIMEOUTS = [f"DASK_DISTRIBUTED__COMM__TIMEOUTS__{name}" for name in ("CONNECT", "TCP")]
+# What asyncio says if Dask is closed at the very moment at which a wait of its sender has ended, whose end is then seen by
+# nobody (`_background_send` of distributed/batched.py).
+ENDED_WAIT = """\
+Future exception was never retrieved
+future: <Future finished exception=TimeoutError('Timeout')>
+TimeoutError: Timeout
+"""
 WEEKS = 200_000  # of a simulated policy
 
 
@@ -33,7 +40,7 @@ def printed(script: str, *words: object) -> pd.DataFrame:
         text=True,
         timeout=SECONDS,
     )
-    assert (run.returncode, run.stderr) == (0, "")
+    assert (run.returncode, run.stderr.replace(ENDED_WAIT, "")) == (0, "")
     return pd.read_fwf(io.StringIO(run.stdout))
 
 
