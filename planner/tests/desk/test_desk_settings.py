@@ -126,7 +126,7 @@ def read_files(planner: Planner) -> None:
 def test_fields_say_how_many_items_they_concern(planner: Planner) -> None:
     """Of three items all have costs of this page; one each has its share from the masters, by its class, and of all."""
     read_files(planner)
-    assert "The files could not be read" in planner.get("/settings").text
+    assert "Nothing can be planned from the files yet" in planner.get("/settings").text
     form = {"setup": "45", "holding_rate": "20%", "fill": "97%", "lead": "14 days"}
     form |= {"currency": "EUR"}
     service = {"service of": ["Y"], "service": ["98%"]}

@@ -12,8 +12,10 @@ import pytest
 
 import crnplan as crn
 from crnplan.plan.answer import RUN, UNDECIDED
-from crnplan.read.item import NO_DEMAND
+from crnplan.plan.totals import Totals
+from crnplan.read.item import NO_DEMAND, STOPPED, Item
 from crnplan.remarks import Remark
+from crnplan.show.page import templates
 from planner.tests.show.made_catalogue import (
     made_folder,
     made_pair,
@@ -138,7 +140,7 @@ def test_an_item_without_demand(tmp_path: Path) -> None:
     assert "it" not in {its["item"] for its in rows_of(tmp_path / "more/rejects.csv")}
     for said in (
         " = 12 planned + 1 no demand + 1 left out (rejects.csv says why)\n",
-        "\nwithout demand in the record: 1 items, with a stock worth 12.00\n",
+        "\nwithout demand in the record: 1 items, and their stock is worth 12.00\n",
     ):
         assert said in summary
     said = (
@@ -149,6 +151,36 @@ def test_an_item_without_demand(tmp_path: Path) -> None:
     for text in (summary, page.words):
         assert "LOST" not in text
         assert "ADD UP" not in text
+
+
+@pytest.mark.parametrize("past", [NO_DEMAND, STOPPED])
+def test_a_stock_of_unknown_worth(tmp_path: Path, past: str) -> None:
+    """Where no stock or price is known of items without an order, no sum stands for it, not even 0."""
+    item, _ = made_pair(random.Random(1), "it")
+    item = replace(item, past=past, counts=(0, 0, 0), price=Fraction(3), stock=None)
+    remark = Remark("no demand in record", {"periods": 3})
+    page = page_of(tmp_path / "plan", 12, change=(item, remark))
+    for text in (page.words, summary_of(tmp_path / "plan")):
+        assert ", and what their stock is worth is not known from the masters" in text
+        assert ", and their stock is worth" not in text
+
+
+def test_what_is_known_of_a_stock_is_added_up() -> None:
+    """The worth of several items is a sum of what is known, and says if that is not all."""
+    item, _ = made_pair(random.Random(1), "it")
+    known = replace(item, past=NO_DEMAND, price=Fraction(3), stock=Fraction(4))
+    items = known, replace(known, stock=Fraction(5)), replace(known, price=None)
+    module = templates(False).get_template("stock_words.txt").module
+    worth = getattr(module, "worth")
+
+    def said(*some: Item) -> str:
+        """Returns what is said of some items, after their totals were kept and read."""
+        remark = Remark("no demand in record", {"periods": 3})
+        totals = Totals.parse(Totals.of((it, remark) for it in some).json)
+        return str(worth(totals, "idle", len(some), str))
+
+    assert said(*items[:2]) == ", and their stock is worth 27.0"
+    assert said(*items) == ", and their stock is worth 27.0, as far as it is known"
 
 
 @pytest.mark.parametrize(

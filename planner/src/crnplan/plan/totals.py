@@ -66,7 +66,8 @@ class Totals:
     Other sums over the items that are compared: `saving` and `saving VERDICT`; `run_saving`, by runs, with its
     `run_variance`; and the value of the demand of a period, `demand`, which other planned items have as
     `demand_uncompared`. Of items without demand `value_idle` is what their stock is worth, and `value_ended` of
-    those that have stopped or are phased out. Of all planned ones `confidence_cost` and `coverage_cost` of a period, `override_cost`,
+    those that have stopped or are phased out, as far as that is known: of so many of the `idle` and the `ended` ones,
+    `valued`. Of all planned ones `confidence_cost` and `coverage_cost` of a period, `override_cost`,
     by which the policies of planners cost more than the chosen ones, and
     of items whose wanted fill is corrected, what it costs a period to hold the mean stock, `held`, and that of the
     policies that aim at the wanted fill, `held_plain`, the shares of demand that they meet by theory, `aimed`, and that
@@ -87,6 +88,7 @@ class Totals:
 
     parts: dict[str, Fraction] = field(default_factory=dict)
     verdicts: Counter[str] = field(default_factory=Counter)
+    valued: Counter[str] = field(default_factory=Counter)
     compared: int = 0
     faults: int = 0
     broken: int = 0
@@ -121,8 +123,10 @@ class Totals:
             self.add(item, answer)
         elif item.past in UNORDERED:
             self.verdicts[item.past] += 1
-            name = "value_idle" if item.past == NO_DEMAND else "value_ended"
-            self.add_to(name, float(item.value or 0))
+            kind = "idle" if item.past == NO_DEMAND else "ended"
+            if item.value is not None:
+                self.valued[kind] += 1
+                self.add_to(f"value_{kind}", float(item.value))
         else:
             self.faults += 1
             self.broken += answer.code in OURS
@@ -137,7 +141,7 @@ class Totals:
         tree = json.loads(text)
         totals = cls(**tree)
         totals.parts = {name: Fraction(part) for name, part in tree["parts"].items()}
-        for name in ("verdicts", "letters", "shared", "least", "half"):
+        for name in ("verdicts", "valued", "letters", "shared", "least", "half"):
             setattr(totals, name, Counter(getattr(totals, name)))
         totals.corrected = Counter(dict(tree["corrected"]))
         return totals
