@@ -44,9 +44,9 @@ SORTS, MARKS = ("stated", "kept", "private", "proof", "unused"), {
 CHAIN = (
     "crn_engines::simulate",
     "crn_run::run_all",
-    "crn_run::run_policy",
     "crn_ring::Reader::take_batch",
-    "crn_ring::laws::steps_are_a_run",
+    "crn_run::run_policy",
+    "crn_steps::laws::steps_are_a_run",
     "crn_proto::laws::every_schedule",
     "crn_cipher::block",
     "crn_proto::laws::progress",

@@ -18,6 +18,7 @@ import pytest
 LOOP = re.compile(
     r"crn_stock::(period|terms)::|crn_stock::state::State::(advance|run_|take_)"
     r"|crn_draw::(guide::(draw|searched)|weights::Weights::pick)|crn_ring::ring::Ring::load_"
+    r"|crn_steps::shared_words::SharedWords::(base|load_|store_|publish_)"
 )
 # Those that are left out: what a block that the end of a replication cuts short needs, the search for a draw, and the
 # loop that loads a batch.

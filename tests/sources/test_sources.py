@@ -1,73 +1,55 @@
-"""No source of the program has what no contract can see, and each rule finds the wrong lines of plants.toml."""
+"""No function of the program is without a clause, and its own file has no names, but those that are listed."""
 from __future__ import annotations
 
 import tomllib
+from collections import Counter
 from pathlib import Path
 from typing import Any
 
 import pytest
 
-from tests.sources.rules import CONVERTERS, RULES, Places, Rule, is_for, without_clause
+from tests.sources.rules import Tokens, names_of, tokens_of, without_clause
 
 HERE = Path(__file__).resolve().parent
-PLANTS = [
-    pytest.param(group, new, id=f"{group['rule']}: {' '.join(new.split())[:80]}")
-    for group in tomllib.loads((HERE / "plants.toml").read_text("utf-8"))["group"]
-    for new in group["new"]
-]
+# What a search by lines or by letters would take for no code.
+HIDDEN = """
+fn hidden()
+    ensures made { "}" ≡ made }
+{
+    let ensures_next = block();
+    let text = r"\\"; block();
+    /* 5" /* */ */ block(); // block();
+    'a: loop { block('"'); }
+}
+"""
+
+
+def listed(name: str) -> dict[str, Any]:
+    """Returns a list of this folder."""
+    return tomllib.loads((HERE / name).read_text("utf-8"))
 
 
 @pytest.fixture(scope="module")
-def texts(top: Path) -> dict[str, str]:
-    """Returns the text of each source of the program's crates, by its name."""
+def sources(top: Path) -> dict[str, Tokens]:
+    """Returns the tokens of each source of the program's crates, by its name."""
     crates = top / "crates"
-    return {
-        str(path.relative_to(crates)): path.read_text("utf-8")
-        for path in sorted(crates.glob("crn*/src/**/*.rt"))
-    }
+    paths = sorted(crates.glob("crn*/src/**/*.rt"))
+    names = (str(path.relative_to(crates)) for path in paths)
+    return dict(zip(names, tokens_of(*paths), strict=True))
 
 
-@pytest.mark.parametrize("rule", RULES, ids=lambda rule: rule.name)
-def test_rule(rule: Rule, texts: dict[str, str]) -> None:
-    """No source has what a rule refuses, and the rule is for some source."""
-    looked = [name for name in texts if is_for(rule, name)]
-    assert looked
-    assert [
-        (name, what) for name in looked for what in rule.refused_in(name, texts[name])
-    ] == []
-
-
-@pytest.mark.parametrize(
-    "rule",
-    [rule for rule in RULES if isinstance(rule, Places)],
-    ids=lambda rule: rule.name,
-)
-def test_places_are_sources(rule: Places, texts: dict[str, str]) -> None:
-    """Each file that a rule lists is there, and the rule is for it."""
-    assert [
-        name for name in rule.places if name not in texts or not is_for(rule, name)
-    ] == []
-
-
-def test_converters(texts: dict[str, str]) -> None:
-    """The files whose function may make an `AllocError` are those that list one."""
-    listed = next(
-        rule
-        for rule in RULES
-        if isinstance(rule, Places) and "fn refusal_of" in rule.words
-    )
-    assert {*listed.places} == {*CONVERTERS}
-
-
-def test_functions_without_clause(texts: dict[str, str]) -> None:
+def test_functions_without_clause(sources: dict[str, Tokens]) -> None:
     """The functions that state nothing of what they return are those that no_clause.toml gives a reason for."""
-    reasons = tomllib.loads((HERE / "no_clause.toml").read_text("utf-8"))
-    silent = {
-        name: sorted(without_clause(text))
-        for name, text in texts.items()
-        if without_clause(text)
-    }
-    assert silent == {name: sorted(functions) for name, functions in reasons.items()}
+    silent = {name: sorted(without_clause(text)) for name, text in sources.items()}
+    expected = {name: sorted(it) for name, it in listed("no_clause.toml").items()}
+    assert {name: found for name, found in silent.items() if found} == expected
+
+
+def test_names_of_the_program(sources: dict[str, Tokens]) -> None:
+    """The program's own file has just the names that program.toml lists, just as often."""
+    pairs = (pair.split() for pair in listed("program.toml")["names"].split(","))
+    expected = Counter({name: int(count) for name, count in pairs})
+    assert names_of(sources["crnsim/src/main.rt"]) == expected
 
 
 @pytest.mark.parametrize(
@@ -78,34 +60,19 @@ def test_functions_without_clause(texts: dict[str, str]) -> None:
     ],
     ids=["ensures", "from_gives"],
 )
-def test_a_lost_clause(line: str, texts: dict[str, str]) -> None:
+def test_a_lost_clause(line: str, top: Path, tmp_path: Path) -> None:
     """A function whose clause is taken away is found."""
-    text = texts["crn_run/src/fault.rt"]
-    assert line.strip() in text
-    assert (
-        len(without_clause(text.replace(line.strip(), "", 1)))
-        == len(without_clause(text)) + 1
-    )
+    text = (top / "crates/crn_run/src/fault.rt").read_text("utf-8")
+    assert line in text
+    for name, changed in (("whole", text), ("lost", text.replace(line, "", 1))):
+        (tmp_path / name).with_suffix(".rt").write_text(changed, "utf-8")
+    lost, whole = tokens_of(*sorted(tmp_path.iterdir()))
+    assert len(without_clause(lost)) == len(without_clause(whole)) + 1
 
 
-@pytest.mark.parametrize("group, new", PLANTS)
-def test_plant(group: dict[str, Any], new: str, texts: dict[str, str]) -> None:
-    """A wrong line has a place in its source, and its rule finds it."""
-    text = texts[group["file"]]
-    rules = [
-        rule
-        for rule in RULES
-        if rule.name == group["rule"] and is_for(rule, group["file"])
-    ]
-    assert group["old"] in text
-    assert any(
-        rule.refused_in(group["file"], text.replace(group["old"], new, 1))
-        for rule in rules
-    )
-
-
-def test_each_rule_has_a_plant() -> None:
-    """No rule is without a wrong line that it finds."""
-    assert {plant.values[0]["rule"] for plant in PLANTS} == {
-        rule.name for rule in RULES
-    }
+def test_hidden_names(tmp_path: Path) -> None:
+    """Names in clauses, comments and texts are none, and none hides those beside it."""
+    (tmp_path / "hidden.rt").write_text(HIDDEN, "utf-8")
+    (tokens,) = tokens_of(tmp_path / "hidden.rt")
+    assert (names_of(tokens)["block"], names_of(tokens)["made"]) == (4, 0)
+    assert without_clause(tokens) == []

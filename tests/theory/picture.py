@@ -8,9 +8,21 @@ import math
 from collections.abc import Iterator, Sequence
 from typing import Any
 
+from crnplan.show.item_plots import HIGH
+from crnplan.show.page import (
+    OF_TODAY,
+    UNITS,
+    Line,
+    Plot,
+    Scale,
+    bars,
+    path_of,
+)
+from crnplan.show.pictures import Picture
+
 NORMAL_95 = 1.959964
-DARK, MIDDLE, LIGHT = "#1f3b57", "#8aa1b8", "#e9edf1"
-MOST_Z = 4
+MOST_Z, STEPS = 4, 2  # of the histogram, with so many bars for each unit of z
+TITLE = "Mean costs by crnsim, less the exact ones by theory"
 
 
 def caption_of(zs: Sequence[float]) -> str:
@@ -38,87 +50,57 @@ def deviations_of(
             yield 100 * (mean / cost - 1), 100 * NORMAL_95 * error / cost
 
 
-def draw_intervals(
-    axes: Any, deviations: list[tuple[float, float]], groups: Sequence[str]
-) -> None:
-    """Draws each policy's deviation with its interval, group by group."""
-    size = len(deviations) // len(groups)
-    for place, group in enumerate(groups):
-        if place % 2 == 0:
-            axes.axvspan(
-                place * size - 0.5, (place + 1) * size - 0.5, color=LIGHT, linewidth=0
-            )
-        axes.text(
-            (place + 0.5) * size,
-            0.985,
-            group,
-            ha="center",
-            va="top",
-            transform=axes.get_xaxis_transform(),
-        )
-    missing = [abs(deviation) > width for deviation, width in deviations]
-    for color, marker, wanted in ((MIDDLE, "o", False), (DARK, "D", True)):
-        chosen = [
-            (place, *it)
-            for place, (it, off) in enumerate(zip(deviations, missing))
-            if off == wanted
-        ]
-        places, middles, widths = ([it[part] for it in chosen] for part in range(3))
-        axes.errorbar(
-            places,
-            middles,
-            widths,
-            fmt=marker,
-            color=DARK,
-            ecolor=color,
-            markersize=3 if wanted else 2,
-            elinewidth=1.3,
-            linewidth=0,
-        )
-    axes.axhline(0, color="black", linewidth=0.8)
-    greatest = max(abs(deviation) + width for deviation, width in deviations)
-    axes.set(
-        xlim=(-0.5, len(deviations) - 0.5),
-        ylim=(-1.05 * greatest, 1.25 * greatest),
-        xticks=[],
-        ylabel="estimated less exact mean cost, %",
-        xlabel=f"{len(deviations)} policies with 95% intervals;\n{sum(missing)} intervals (diamonds) miss 0, and "
-        f"{len(deviations) // 20} are expected to",
+def intervals_plot(
+    deviations: Sequence[tuple[float, float]], groups: Sequence[str]
+) -> Plot:
+    """Returns each policy's deviation with its interval, group by group; every second group has a ground."""
+    count, most = len(deviations), max(abs(off) + width for off, width in deviations)
+    up = Scale.between(-most, most, sign="%")
+    paths = {OF_TODAY: "", HIGH: ""}
+    for place, (off, width) in enumerate(deviations):
+        across, low, high = UNITS * (place + 0.5) / count, off - width, off + width
+        css = HIGH if abs(off) > width else OF_TODAY
+        paths[css] += f"M{across:.1f} {up.down(high):g}V{up.down(low):g}"
+    missing = sum(abs(off) > width for off, width in deviations)
+    part = UNITS / len(groups)
+    marks = [(part * (place + 0.5), name, "") for place, name in enumerate(groups)]
+    grounds = [
+        f"M{part * it} 0h{part}v{UNITS}h-{part}z" for it in range(0, len(groups), 2)
+    ]
+    return Plot(
+        title="Estimated less exact mean cost of each policy, with its 95% interval",
+        description=f"{count} policies in {len(groups)} groups: {', '.join(groups)}.",
+        heights=up.heights,
+        marks=marks,
+        across=f"{count} policies, by their law of demand",
+        lines=[
+            Line("holds 0", OF_TODAY, paths[OF_TODAY]),
+            Line(
+                f"misses 0: {missing} do, and {count // 20} are expected to",
+                HIGH,
+                paths[HIGH],
+            ),
+        ],
+        gaps="".join(grounds),
     )
 
 
-def draw_histogram(axes: Any, zs: Sequence[float]) -> None:
-    """Draws the histogram of all z, with the standard normal density."""
-    edges = [place / 2 for place in range(-2 * MOST_Z, 2 * MOST_Z + 1)]
-    axes.hist(
-        zs,
-        edges,
-        density=True,
-        color=MIDDLE,
-        edgecolor="white",
-        linewidth=0.6,
-        label="crnsim",
-    )
+def histogram(zs: Sequence[float]) -> Plot:
+    """Returns the shares of all z as bars, with the standard normal density."""
+    counts = [0] * (2 * STEPS * MOST_Z)
+    for z in zs:
+        counts[min(max(math.floor(STEPS * (z + MOST_Z)), 0), len(counts) - 1)] += 1
+    up, across = Scale.of([0.5]), Scale.between(-MOST_Z, MOST_Z)
     places = [place / 20 for place in range(-20 * MOST_Z, 20 * MOST_Z + 1)]
-    axes.plot(
-        places,
-        [math.exp(-z * z / 2) / math.sqrt(2 * math.pi) for z in places],
-        color="black",
-        linewidth=1.4,
-        label="standard normal",
-    )
-    axes.set(
-        xlim=(-MOST_Z, MOST_Z),
-        ylim=(0, 0.5),
-        ylabel="density",
-        xlabel=f"z: deviation over standard error,\n{len(zs):,} mean costs (a policy with a key)",
-    )
-    axes.legend(
-        frameon=False,
-        loc="upper left",
-        fontsize=8.5,
-        borderaxespad=0.2,
-        handlelength=1.2,
+    normal = [(z, math.exp(-z * z / 2) / math.sqrt(2 * math.pi)) for z in places]
+    return Plot(
+        title="Density of z, a deviation over its standard error",
+        description=caption_of(zs),
+        heights=up.heights,
+        marks=across.marks,
+        across=caption_of(zs),
+        lines=[Line("standard normal density", HIGH, path_of(across, up, normal))],
+        bars=bars([STEPS * count / len(zs) for count in counts], up),
     )
 
 
@@ -129,31 +111,6 @@ def draw(
     groups: Sequence[str],
     zs: Sequence[float],
 ) -> None:
-    """Draws the picture into a file, as its ending says."""
-    import matplotlib
-
-    matplotlib.use("Agg")
-    from matplotlib import pyplot
-
-    settings = {
-        "svg.fonttype": "none",
-        "svg.hashsalt": "crnsim",
-        "font.size": 9.5,
-        "axes.spines.top": False,
-        "axes.spines.right": False,
-        "font.family": "sans-serif",
-    }
-    with matplotlib.rc_context(settings):
-        figure, axes = pyplot.subplots(
-            1, 2, figsize=(8.4, 3.5), gridspec_kw={"width_ratios": [1.65, 1]}
-        )
-        draw_intervals(axes[0], list(deviations_of(samples, costs)), groups)
-        draw_histogram(axes[1], zs)
-        figure.text(0.5, 0.012, caption_of(zs), ha="center", va="bottom")
-        figure.subplots_adjust(
-            left=0.08, right=0.99, top=0.98, bottom=0.245, wspace=0.22
-        )
-        figure.savefig(
-            path, dpi=100, metadata={"Date": None} if path.endswith(".svg") else None
-        )
-        pyplot.close(figure)
+    """Draws the picture into a file."""
+    deviations = [*deviations_of(samples, costs)]
+    Picture.of([intervals_plot(deviations, groups), histogram(zs)], TITLE).save(path)

@@ -1,7 +1,7 @@
 """Runs the settings of settings.py with fixed keys, and says how far mean costs lie from what theory expects.
 
-python -m tests.theory.samples PROGRAM FILE draws the runs into FILE, which ends in .svg or .png, and prints the caption
-below them. The stored picture is docs/theory.svg.
+python -m tests.theory.samples PROGRAM FILE draws the runs into FILE, which ends in .svg, and prints the caption below
+them. The stored picture is docs/theory.svg.
 """
 from __future__ import annotations
 
@@ -140,8 +140,8 @@ def main() -> None:
     words.add_argument("program", metavar="PROGRAM", type=os.path.abspath)
     words.add_argument("file", metavar="FILE")
     asked = words.parse_args()
-    if not asked.file.endswith((".svg", ".png")):
-        words.error(f"{asked.file}: give a file that ends in .svg or .png")
+    if not asked.file.endswith(".svg"):
+        words.error(f"{asked.file}: give a file that ends in .svg")
     every = [measured(Path(asked.program), number) for number in range(len(SETTINGS))]
     levels, _ = all_zs(Path(asked.program))
     draw(

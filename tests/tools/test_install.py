@@ -89,8 +89,8 @@ def test_program_is_the_one_that_is_given(installed: Machine) -> None:
 def test_crnplan_does_not_need_the_repository(installed: Machine) -> None:
     crnplan = prefix(installed) / "bin" / "crnplan"
     assert installed.run(crnplan, "--version").stdout.startswith("crnplan ")
-    ran = installed.run(crnplan, "why", "-", text="version = 3\n")
-    assert (ran.returncode, ran.stderr) == (1, "")
+    ran = installed.run(crnplan, "run", "-", text="version = 3\n")
+    assert ran.returncode == 2 and "fault 2" in ran.stderr
     python = prefix(installed) / "lib" / "crnplan" / "venv" / "bin" / "python"
     where = installed.run(
         python, "-c", "import crnplan; print(crnplan.__file__)"
@@ -105,7 +105,7 @@ def test_each_command_has_a_manual_page(installed: Machine) -> None:
         "crnsim-leg.1",
         "crnplan.1",
         "crnplan-desk.1",
-        "crnplan-why.1",
+        "crnplan-run.1",
         "crnplan-suggest.1",
     } <= names
 
@@ -127,7 +127,7 @@ def test_bash_completes_the_words_of_the_program(
 
 @pytest.mark.parametrize(
     "words, found",
-    [(["crnplan", "sw"], "sweep"), (["crnplan", "sweep", "--clu"], "--cluster")],
+    [(["crnplan", "ca"], "catalogue"), (["crnplan", "curve", "--clu"], "--cluster")],
 )
 def test_bash_completes_the_words_of_crnplan(
     installed: Machine, words: list[str], found: str

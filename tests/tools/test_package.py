@@ -136,11 +136,15 @@ def check_commands(
     assert printed(
         "crnsim", text=(examples / "two_policies.toml").read_text("utf-8")
     ) == (examples / "two_policies.csv").read_text("utf-8")
-    case = examples / "case/history.csv", examples / "case/settings.toml"
-    assert printed("crnplan", "item", *case, "--out", room / "plan").startswith(
-        "Below 12, order up to 31: cheaper than today's policy (15, 30)\n"
-    )
-    assert "Below 12" in (room / "plan/summary.html").read_text("utf-8")
+    case, plan = examples / "case", room / "plan"
+    for words in (
+        ["catalogue", case / "history.csv", case / "items.csv", "--out", plan],
+        ["report", plan, "--item", "spare part"],
+    ):
+        ran = machine.run(commands / "crnplan", *words, **more)
+        assert ran.returncode == 0, ran.stderr
+    page, _ = ran.stdout.splitlines()
+    assert "Below 12" in Path(page).read_text("utf-8")
     check_desk(machine, commands / "crnplan", room / "desk", **more)
 
 

@@ -25,7 +25,7 @@ pub enum ReadFault {
 }
 
 // One turn: appends what a read gives, and counts the turn if the read succeeds. Returns whether the input goes on. That a turn
-// makes one read and no more, no contract says of a reader that shows no bytes; `tests/sources` does.
+// makes one read and no more, no contract says of a reader that shows no bytes; `tests/calls` does.
 fn read_some<R: Read>(reader: &mut R, input: &mut Vec<u8>, reads: &mut usize) -> Result<bool, Fault>
     requires { reads.old < INPUT_LIMIT + 1 }
     ensures counted { reads.new ≤ reads.old + 1 }

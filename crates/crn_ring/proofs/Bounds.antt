@@ -1,21 +1,10 @@
--- A step is a move, and so many moves are so many steps.
-use Rattle.std.proofs.Common.{◌≡◌, ℕ, ◌+◌, ◌≤◌, List, [], ◌∷◌, length, refl, ap, ◌∙◌, subst, arith}
-use Rattle.atomic_table.specs.Table.{Step}
+-- So many moves are so many steps.
+use Rattle.std.proofs.Common.{◌≡◌, ℕ, ◌+◌, ◌≤◌, List, [], ◌∷◌, length, refl, ap, ◌∙◌, arith}
 use Rattle.crn_proto.specs.declared.spec.RingSpec.{RingSpec}
 use Rattle.crn_proto.specs.declared.actor_parts.ProducerPart.{ProducerPart}
 use Rattle.crn_proto.specs.declared.actor_parts.ReaderPart.{ReaderPart}
 use Rattle.crn_proto.specs.Ring.{ProducerMove, LoadGate, ProducerMay, producer_after, ReaderMove, LoadCursor, ReaderMay, reader_after}
 use Rattle.crn_proto.specs.Chains.{Chain, ProducerReaches, ReaderReaches}
-use Rattle.crn_proto.proofs.Chains.{reaches_one}
-use Rattle.crn_ring.specs.Plays.{Sat, MadeByProducer, MadeByReader}
-
--- a step that is a move leads by one move
-pub producer_goes : (spec : RingSpec) (move : ProducerMove) (st : Step (Unit {0})) (m m' : Sat) (n : ℕ) → m.0.spec ≡ spec → MadeByProducer move st m n m' → ProducerReaches spec m.0.producer 1 m'.0.producer
-producer_goes spec move st m m' n same made =
-    reaches_one (ProducerMay spec) producer_after move n m.0.producer m'.0.producer (subst (λ (z : RingSpec). ProducerMay z m.0.producer move) same made.may) (ap (λ (z : Sat). z.0.producer) made.view)
-
-pub reader_goes : (move : ReaderMove) (st : Step (Unit {0})) (m m' : Sat) (n : ℕ) → MadeByReader move st m n m' → ReaderReaches m.0.reader 1 m'.0.reader
-reader_goes move st m m' n made = reaches_one ReaderMay reader_after move n m.0.reader m'.0.reader made.may (ap (λ (z : Sat). z.0.reader) made.view)
 
 producer_step : (p : ProducerPart) (m : ProducerMove) (x : ℕ) → (producer_after p m x).steps ≡ p.steps + 1
 producer_step p (LoadGate r) x = refl

@@ -5,8 +5,8 @@ use Rattle.crn_cipher.specs.Following.{FollowOn}
 use Rattle.crn_proto.specs.declared.spec.RingSpec.{RingSpec}
 use Rattle.crn_proto.specs.Ring.{StoreWord}
 use Rattle.crn_proto.proofs.Parts.{get_set_cases}
-use Rattle.crn_ring.specs.declared.view.View.{View}
-use Rattle.crn_ring.specs.Plays.{ProducerGoesOn}
+use Rattle.crn_steps.specs.declared.view.View.{View}
+use Rattle.crn_steps.specs.Plays.{ProducerGoesOn}
 use Rattle.crn_ring.specs.Inner.Plays.{read_many, wrote_many}
 
 pub read_many_join : (ns ms : List ℕ) (v : View) → read_many ms (read_many ns v) ≡ read_many (ns ++ ms) v

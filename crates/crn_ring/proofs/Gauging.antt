@@ -10,10 +10,10 @@ use Rattle.std.specs.Prelude.{slice_set, slice_index, Some}
 use Rattle.crn_proto.specs.declared.spec.RingSpec.{RingSpec}
 use Rattle.crn_proto.specs.declared.actor_parts.ProducerPart.{ProducerPart}
 use Rattle.crn_proto.specs.Ring.{left_mark, LoadGate, producer_after}
-use Rattle.crn_ring.specs.declared.view.View.{View}
+use Rattle.crn_steps.specs.declared.view.View.{View}
 use Rattle.crn_ring.specs.Gates.{Loaded, Passes}
 use Rattle.crn_ring.specs.Inner.Gates.{LeastOf}
-use Rattle.crn_ring.specs.Plays.{by_producer, passed_after}
+use Rattle.crn_steps.specs.Plays.{by_producer, passed_after}
 use Rattle.crn_ring.specs.Inner.Plays.{Gauged}
 
 loaded_none : (p : ProducerPart) → Loaded 0 p p

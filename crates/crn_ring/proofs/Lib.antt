@@ -1,14 +1,8 @@
-pub mod Allowed
-pub mod Beginning
 pub mod Bounds
-pub mod Ending
 pub mod Filling
 pub mod Fresh
 pub mod Gauging
-pub mod Going
 pub mod Opened
 pub mod Remembering
 pub mod Rooms
 pub mod Rows
-pub mod Schedules
-pub mod Slots

@@ -1,48 +1,20 @@
--- A table that meets the rule while all parts are open has the words of the open ring.
-use Rattle.std.proofs.Common.{◌≡◌, ℕ, zero, suc, ◌+◌, ◌-◌, ◌<◌, List, [], ◌∷◌, length, Some, refl, sym, ap, ◌∙◌, subst, arith}
+-- The words of an opened ring, by what its seats know.
+use Rattle.std.proofs.Common.{◌≡◌, ℕ, zero, suc, ◌<◌, List, [], ◌∷◌, length, Some, refl, sym, ap, ◌∙◌, subst, arith}
 use Rattle.std.specs.Prelude.{slice_get}
-use Rattle.std.proofs.lemmas.List.{append-nil}
-use Rattle.atomic_table.specs.Table.{State}
 use Rattle.crn_proto.specs.declared.spec.RingSpec.{RingSpec}
-use Rattle.crn_proto.specs.declared.actor_parts.Part.{Part}
 use Rattle.crn_proto.specs.declared.actor_parts.Part.TheVariants.{OfProducer, OfReader}
-use Rattle.crn_proto.specs.declared.actor_parts.ProducerPart.{ProducerPart}
-use Rattle.crn_proto.specs.declared.actor_parts.ReaderPart.{ReaderPart}
 use Rattle.crn_proto.specs.Ring.{open_words, open_producer, open_reader}
-use Rattle.crn_proto.specs.Lawful.{ProducerLaw, ReaderLaw, PartLaw}
-use Rattle.crn_proto.specs.Views.{waiting_parts}
+use Rattle.crn_proto.specs.Lawful.{ProducerLaw, ReaderLaw}
 use Rattle.crn_proto.proofs.Opening.{open_words_alone}
-use Rattle.crn_ring.specs.declared.view.View.{View}
+use Rattle.crn_steps.specs.declared.view.View.{View}
+use Rattle.crn_steps.specs.Holds.{Holds, opened}
+use Rattle.crn_steps.specs.Schedules.{TableState}
+use Rattle.crn_steps.specs.Seats.{view_of}
+use Rattle.crn_steps.proofs.Allowed.{own_law, producer_alone, reader_alone}
 use Rattle.crn_ring.specs.declared.ring.Ring.{Ring}
 use Rattle.crn_ring.specs.declared.producer.Producer.{Producer}
 use Rattle.crn_ring.specs.declared.reader.Reader.{Reader}
-use Rattle.crn_ring.specs.Holds.{Holds, opened}
-use Rattle.crn_ring.specs.Seats.{view_of}
 use Rattle.crn_ring.specs.Calls.{AllFresh, IsOpened, IsStateOf, producer_part, reader_part, spec_of}
-use Rattle.crn_ring.specs.Schedules.{OpensAsTheOpenRing}
-use Rattle.crn_ring.proofs.Allowed.{own_law, producer_alone, reader_alone}
-
--- ---- the parts that wait in the first seat
-
-pub waiting_reader : (p : ProducerPart) (q : ReaderPart) (r count k : ℕ) → k < count → slice_get (waiting_parts p q r count) k ≡ Some (OfReader (r + k) q)
-waiting_reader p q r zero k h = absurd (omega arith)
-waiting_reader p q r (suc count) zero h = let e : r ≡ r + 0 = omega arith in cc
-waiting_reader p q r (suc count) (suc k) h = let e : suc r + k ≡ r + suc k = omega arith in rw e at (waiting_reader p q (suc r) count k (omega arith))
-
-pub waiting_producer : (p : ProducerPart) (q : ReaderPart) (r count : ℕ) → slice_get (waiting_parts p q r count) count ≡ Some (OfProducer p)
-waiting_producer p q r zero = refl
-waiting_producer p q r (suc count) = waiting_producer p q (suc r) count
-
-pub opens_as_the_open_ring : OpensAsTheOpenRing
-opens_as_the_open_ring spec words law =
-    let p = open_producer spec in
-    let q = open_reader spec in
-    let count = spec.readers - 0 in
-    let each : (k : ℕ) (part : Part) → slice_get (waiting_parts p q 0 count) k ≡ Some part → PartLaw spec words part = rw append-nil at law.rule.lawful.of_parts in
-    open_words_alone spec law.ring words law.rule.lawful.of_words (each count (OfProducer p) (waiting_producer p q 0 count))
-    (λ r h. each r (OfReader r q) (let e : 0 + r ≡ r = omega arith in rw e at (waiting_reader p q 0 count r (omega arith))))
-
--- ---- the seats of an opened ring
 
 there : {A : Type 0} (xs : List A) (k : ℕ) → k < length xs → (x : A) × (slice_get xs k ≡ Some x)
 there [] k h = absurd (omega arith)
@@ -50,7 +22,7 @@ there (x ∷ xs) zero h = (x, refl)
 there (x ∷ xs) (suc k) h = there xs k (omega arith)
 
 pub words_at_open : (spec : RingSpec) (ring : Ring) (p : Producer) (readers : List Reader) → spec_of ring ≡ spec → producer_part p ≡ open_producer spec → length readers ≡ spec.readers → AllFresh ring readers
-    → (s : State (Unit {0}) View) → IsStateOf ring p readers s → s.words ≡ open_words spec
+    → (s : TableState) → IsStateOf ring p readers s → s.words ≡ open_words spec
 words_at_open spec ring p readers as_given opens all fresh s state =
     let law : Holds spec s = subst (λ (z : RingSpec). Holds z s) as_given state.rule in
     let own : ProducerLaw spec s.words (producer_part p) = own_law spec s p.seat.id (view_of p.seat) (OfProducer (producer_part p)) law state.producer (producer_alone (view_of p.seat) p.role) in
@@ -65,13 +37,15 @@ words_at_open spec ring p readers as_given opens all fresh s state =
     open_words_alone spec law.ring s.words law.rule.lawful.of_words (subst (ProducerLaw spec s.words) opens own) readers_laws
 
 -- what the seats of all actors are makes an opened ring
-pub is_opened : (spec : RingSpec) (ring : Ring) (p : Producer) (readers : List Reader) → spec_of ring ≡ spec → p.seat.table_id ≡ ring.table.shared.table_id → view_of p.seat ≡ opened spec spec.readers
-    → length readers ≡ spec.readers → AllFresh ring readers → IsOpened spec ring p readers
-is_opened spec ring p readers as_given at view count fresh = record {
-  as_given = as_given;
-  producer_of = (at, ap (λ (v : View). v.spec) view ∙ sym as_given);
-  producer_open = ap (λ (v : View). v.producer) view;
-  count = count;
-  readers_open = fresh;
-  words_open = words_at_open spec ring p readers as_given (ap (λ (v : View). v.producer) view) count fresh;
-}
+pub is_opened : (spec : RingSpec) (ring : Ring) (p : Producer) (readers : List Reader) → spec_of ring ≡ spec → p.seat.table_id ≡ ring.words.table.shared.table_id → view_of p.seat ≡ opened (spec_of ring) (spec_of ring).readers
+    → length readers ≡ (spec_of ring).readers → AllFresh ring readers → IsOpened spec ring p readers
+is_opened spec ring p readers as_given at view count fresh =
+    let opens : producer_part p ≡ open_producer spec = ap (λ (v : View). v.producer) view ∙ ap open_producer as_given in
+    let all : length readers ≡ spec.readers = count ∙ ap (λ (z : RingSpec). z.readers) as_given in record {
+      as_given = as_given;
+      producer_of = (at, ap (λ (v : View). v.spec) view);
+      producer_open = opens;
+      count = all;
+      readers_open = fresh;
+      words_open = words_at_open spec ring p readers as_given opens all fresh;
+    }

@@ -8,10 +8,10 @@ use Rattle.crn_proto.specs.declared.actor_parts.ReaderPart.{ReaderPart}
 use Rattle.crn_proto.specs.Ring.{left_mark, LoadGate, ProducerMay, producer_after, Publish, ReaderMay, reader_after, LoadCursor, Take}
 use Rattle.crn_proto.specs.Chains.{ProducerReaches, ReaderReaches}
 use Rattle.crn_proto.proofs.Chains.{reaches_join, reaches_more}
-use Rattle.crn_ring.specs.declared.view.View.{View}
+use Rattle.crn_steps.specs.declared.view.View.{View}
 use Rattle.crn_ring.specs.Gates.{HaveRoom, Loaded, Passes, Remembers}
 use Rattle.crn_ring.specs.Inner.Gates.{LeastOf}
-use Rattle.crn_ring.specs.Plays.{by_producer}
+use Rattle.crn_steps.specs.Plays.{by_producer}
 use Rattle.crn_ring.specs.Inner.Plays.{Gauged}
 use Rattle.crn_ring.specs.Parts.{IsFull, Publishes, Takes, TakesShown}
 use Rattle.crn_ring.specs.Inner.Rooms.{HasFound}

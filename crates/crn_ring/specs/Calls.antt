@@ -2,14 +2,14 @@
 use Rattle.std.specs.Prelude.{◌≡◌, ℕ, List, length, slice_get, Some, drop}
 use mathlib.Core.Option.{some}
 use lib.ListN.{get_elem?}
-use Rattle.atomic_table.specs.Table.{State}
 use Rattle.crn_cipher.specs.declared.stream.Block.{Block}
 use Rattle.crn_cipher.specs.Following.{FollowOn}
 use Rattle.crn_proto.specs.declared.spec.RingSpec.{RingSpec}
 use Rattle.crn_proto.specs.declared.actor_parts.ProducerPart.{ProducerPart}
 use Rattle.crn_proto.specs.declared.actor_parts.ReaderPart.{ReaderPart}
 use Rattle.crn_proto.specs.Ring.{open_producer, open_reader, open_words}
-use Rattle.crn_ring.specs.declared.view.View.{View}
+use Rattle.crn_steps.specs.Schedules.{TableState}
+use Rattle.crn_steps.specs.Places.{IsAt}
 use Rattle.crn_ring.specs.declared.ring.Ring.{Ring}
 use Rattle.crn_ring.specs.declared.producer.Producer.{Producer}
 use Rattle.crn_ring.specs.declared.reader.Reader.{Reader}
@@ -22,13 +22,13 @@ use Rattle.crn_ring.specs.declared.answers.Take.{Take}
 use Rattle.crn_ring.specs.declared.answers.Take.TheVariants as Next
 use Rattle.crn_ring.specs.declared.answers.Batch.{Batch}
 use Rattle.crn_ring.specs.declared.answers.Batch.TheVariants as Several
-use Rattle.crn_ring.specs.Holds.{Holds}
-use Rattle.crn_ring.specs.Seats.{Place, view_of, spec_in, producer_in, reader_in}
+use Rattle.crn_steps.specs.Holds.{Holds}
+use Rattle.crn_steps.specs.Seats.{view_of, spec_in, producer_in, reader_in}
 use Rattle.crn_ring.specs.Parts.{Publishes, IsFull, Takes, TakesShown, SeesNothing, SeesEnd}
 
 -- the size, the number of readers and the stream that a ring was opened with
 abbrev pub spec_of : Ring → RingSpec
-spec_of ring = ring.spec
+spec_of ring = ring.words.spec
 
 -- the part of the ring's state that is the producer's
 abbrev pub producer_part : Producer → ProducerPart
@@ -49,17 +49,13 @@ producer_spec p = spec_in p.seat
 abbrev pub reader_spec : Reader → RingSpec
 reader_spec r = spec_in r.seat
 
--- The seat is at this ring's table.
-abbrev pub IsAt : Ring → Place → Type 0
-IsAt ring seat = (seat.table_id ≡ ring.table.shared.table_id) × (spec_in seat ≡ ring.spec)
-
 -- The producer is this ring's.
 abbrev pub IsProducerOf : Ring → Producer → Type 0
-IsProducerOf ring p = IsAt ring p.seat
+IsProducerOf ring p = IsAt ring.words p.seat
 
 -- The reader is this ring's.
 abbrev pub IsReaderOf : Ring → Reader → Type 0
-IsReaderOf ring r = IsAt ring r.seat
+IsReaderOf ring r = IsAt ring.words r.seat
 
 -- What a reader that has left has done.
 abbrev pub left_part : LeftReader → ReaderPart
@@ -67,7 +63,7 @@ left_part x = reader_in x.seat
 
 -- What is left is reader number r of this ring.
 abbrev pub HasLeft : Ring → ℕ → LeftReader → Type 0
-HasLeft ring r x = IsAt ring x.seat × ((view_of x.seat).number ≡ r)
+HasLeft ring r x = IsAt ring.words x.seat × ((view_of x.seat).number ≡ r)
 
 -- Reader x is number r of this ring, as it is at open.
 abbrev pub IsFresh : Ring → ℕ → Reader → Type 0
@@ -77,7 +73,7 @@ abbrev pub AllFresh : Ring → List Reader → Type 0
 AllFresh ring xs = (r : ℕ) (x : Reader) → slice_get xs r ≡ Some x → IsFresh ring r x
 
 -- A state of the ring's table in which the rule holds, and the producer and the readers know what they know here.
-pub record IsStateOf (ring : Ring) (p : Producer) (readers : List Reader) (s : State (Unit {0}) View) : Type 0 where
+pub record IsStateOf (ring : Ring) (p : Producer) (readers : List Reader) (s : TableState) : Type 0 where
   pub rule : Holds (spec_of ring) s
   pub producer : get_elem? s.views p.seat.id ≡ some (view_of p.seat)
   pub reader : (r : ℕ) (x : Reader) → slice_get readers r ≡ Some x → get_elem? s.views x.seat.id ≡ some (view_of x.seat)
@@ -90,7 +86,7 @@ pub record IsOpened (spec : RingSpec) (ring : Ring) (p : Producer) (readers : Li
   pub producer_open : producer_part p ≡ open_producer spec
   pub count : length readers ≡ spec.readers
   pub readers_open : AllFresh ring readers
-  pub words_open : (s : State (Unit {0}) View) → IsStateOf ring p readers s → s.words ≡ open_words spec
+  pub words_open : (s : TableState) → IsStateOf ring p readers s → s.words ≡ open_words spec
 
 -- The producer's part after each answer of `try_publish`, and after each of `publish_batch` of m blocks.
 abbrev pub AfterPublish : RingSpec → ProducerPart → ProducerPart → Publish → Type 0

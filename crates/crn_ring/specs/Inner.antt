@@ -2,4 +2,3 @@
 pub mod Gates
 pub mod Plays
 pub mod Rooms
-pub mod Seats

@@ -1,9 +1,4 @@
-pub mod Holds
-pub mod Seats
 pub mod Gates
-pub mod Plays
 pub mod Parts
 pub mod Calls
-pub mod Closes
-pub mod Schedules
 pub mod Inner

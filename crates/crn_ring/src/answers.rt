@@ -1,6 +1,5 @@
 //! The results of the calls of a producer, of a reader and of a ring.
 use crn_cipher::Block;
-use crn_limits::POLICY_LIMIT;
 
 /// The result of [`try_publish`](crate::Producer::try_publish).
 #[derive(Clone, Copy, Debug, PartialEq, Eq)]
@@ -69,16 +68,4 @@ pub enum Batch {
         /// The number of the block that would have been taken next.
         published: u64,
     },
-}
-
-/// The result of [`close`](crate::Ring::close): the cursors of a ring at its end.
-#[derive(Clone, Copy, Debug, PartialEq, Eq)]
-pub struct Closing {
-    /// The number of the block that would have been published next.
-    pub published: u64,
-    /// Whether the end is marked.
-    pub ended: bool,
-    /// For each reader the number of the block that it would have taken next, or [`LEFT`](crn_proto::LEFT) if it has
-    /// left. Entries past the readers are 0.
-    pub cursors: [u64; POLICY_LIMIT as usize],
 }

@@ -1,13 +1,14 @@
 //! The producer of a ring.
 ghost use Rattle.std.specs.Prelude.{◌≡◌, ◌≤◌};
 ghost use Rattle.crn_ring.specs.Gates.{Remembers};
-ghost use Rattle.crn_ring.specs.Holds.{HasProducer};
-ghost use Rattle.crn_ring.specs.Seats.{passed_in, producer_in, spec_in, view_of};
+ghost use Rattle.crn_steps.specs.Holds.{HasProducer};
+ghost use Rattle.crn_steps.specs.Seats.{passed_in, producer_in, spec_in, view_of};
 
 use crate::answers::{Publish, PublishMany};
-use crate::ring::{Place, Ring};
+use crate::ring::Ring;
 use crate::room::Room;
 use crn_cipher::{BLOCK_WORDS, Block};
+use crn_steps::Place;
 
 /// The producer of a ring: it publishes the blocks of the ring's stream in order, and then marks the end. A ring has one,
 /// which may run on its own thread.
@@ -112,7 +113,8 @@ impl Producer {
             Room::Blocks(count) => {
                 ring.store_rows(&mut self.seat, blocks, count);
                 self.published += count as u64;
-                ring.publish_upto(&mut self.seat, self.published, count);
+                ring.words
+                    .publish_upto(&mut self.seat, self.published, count);
                 PublishMany::Done { count }
             }
         }
@@ -133,7 +135,7 @@ impl Producer {
         ensures published { (producer_part self.new).published ≡ (producer_part self.old).published }
         ensures ended { (producer_part self.new).ended ≡ true }
     {
-        ring.store_end(&mut self.seat, self.published);
+        ring.words.store_end(&mut self.seat, self.published);
         self.ended = true;
     }
 }

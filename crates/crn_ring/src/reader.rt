@@ -1,11 +1,12 @@
 //! A reader of a ring.
 ghost use Rattle.std.specs.Prelude.{◌≡◌, ◌≤◌, ◌<◌, [], false, true};
-ghost use Rattle.crn_ring.specs.Holds.{HasReader};
-ghost use Rattle.crn_ring.specs.Seats.{looked_in, reader_in, spec_in, view_of};
+ghost use Rattle.crn_steps.specs.Holds.{HasReader};
+ghost use Rattle.crn_steps.specs.Seats.{looked_in, reader_in, spec_in, view_of};
 
 use crate::answers::{Batch, Take};
-use crate::ring::{Place, Ring};
+use crate::ring::Ring;
 use crn_cipher::{BLOCK_WORDS, Block};
+use crn_steps::Place;
 
 /// A reader of a ring: it takes every block that the producer publishes, in order, and then sees the end. Each reader of a
 /// ring may run on its own thread.
@@ -90,7 +91,7 @@ impl Reader {
         ensures within { (reader_part self.new).taken ≤ (spec_of ring.now).id.total }
     {
         let number = self.taken;
-        let cursor = ring.load_cursor(&mut self.seat);
+        let cursor = ring.words.load_cursor(&mut self.seat);
         let published = cursor / 2;
         self.seen = published;
         self.ended = cursor == 2 * number + 1;
@@ -102,8 +103,9 @@ impl Reader {
         }
         let words = ring.load_row(&mut self.seat, number);
         self.taken += 1;
-        ring.store_taken(&mut self.seat, self.number, self.taken, 1);
-        Take::Got(Block::from_words(ring.spec.id.key, number, words))
+        ring.words
+            .store_taken(&mut self.seat, self.number, self.taken, 1);
+        Take::Got(Block::from_words(ring.words.spec.id.key, number, words))
     }
 
     /// Takes all published blocks that fit into `out` and frees their slots by one store. They stand at the start of
@@ -126,7 +128,7 @@ impl Reader {
         ensures answer { AfterBatch (spec_of ring.now) (reader_part self.old) (reader_part self.new) out.old out.new result }
         ensures within { (reader_part self.new).taken ≤ (spec_of ring.now).id.total }
     {
-        let cursor = ring.load_cursor(&mut self.seat);
+        let cursor = ring.words.load_cursor(&mut self.seat);
         let published = cursor / 2;
         self.seen = published;
         self.ended = cursor == 2 * self.taken + 1;
@@ -190,7 +192,7 @@ impl Reader {
             seen: _,
             ended: _,
         } = self;
-        ring.store_left(&mut seat, number);
+        ring.words.store_left(&mut seat, number);
         LeftReader { seat }
     }
 }

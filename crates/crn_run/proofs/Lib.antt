@@ -5,3 +5,4 @@ mod Ending
 mod Batches
 mod OneResult
 mod Publishing
+mod Turning

@@ -10,6 +10,9 @@ use Rattle.crn_proto.specs.declared.spec.RingSpec.{RingSpec}
 use Rattle.crn_proto.specs.declared.actor_parts.ProducerPart.{ProducerPart}
 use Rattle.crn_ring.specs.Gates.{HaveRoom, Loaded}
 use Rattle.crn_ring.specs.Parts.{IsFull, Publishes, PublishesOnce}
+use Rattle.crn_ring.specs.declared.answers.PublishMany.{PublishMany}
+use Rattle.crn_run.specs.Feeding.{AfterOffer, Offers, OffersAll}
+use Rattle.crn_run.specs.declared.waiting.Counted.{Counted}
 
 -- how many blocks are left after the first `start`
 pub rest_length : (blocks : List Block) (start : ℕ) → length (take (length blocks - start) (drop start blocks)) ≡ length blocks - start
@@ -73,3 +76,10 @@ once_full spec m zero rest r taken p q q' lt rest_is before quiet full room =
     let whole : rest ≡ m = omega (arith, rest_is) in
     let loads : q'.loads ≡ q.loads = quiet (subst (λ (k : ℕ). HaveRoom spec q k) (sym whole) (subst (λ (x : ProducerPart). HaveRoom spec x m) (sym same) room)) in
     absurd (omega (arith, loaded_none (r + 1) q q' loads full.loaded))
+
+-- one look more, for all that is left
+pub one_look : (spec : RingSpec) (m start rest : ℕ) (p q q' : ProducerPart) (u v w : Counted) (answer : PublishMany) → ((count : ℕ) × OffersAll count spec (p.published + m) p u q v) → start < m → rest ≡ m - start
+    → q.published ≡ p.published + start → AfterOffer spec rest q v q' w answer → (count : ℕ) × OffersAll count spec (p.published + m) p u q' w
+one_look spec m start rest p q q' u v w answer before lt rest_is there after =
+    let offers : Offers spec (p.published + m) q v q' w = record { left = rest; some = omega (arith, lt, rest_is); all = omega (arith, lt, rest_is, there); answer = answer; after = after } in
+    (suc before.0, (q, v, before.1, offers))

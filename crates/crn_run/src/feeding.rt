@@ -2,16 +2,15 @@
 ghost use Rattle.std.specs.Prelude.{◌≡◌, ℕ, ◌+◌, ◌-◌, ◌<◌, ◌≤◌, true, false, length, min, slice_get, Some};
 ghost use Rattle.crn_cipher.specs.declared.stream.Block.{Block};
 ghost use Rattle.crn_cipher.specs.Following.{FollowOn};
-ghost use Rattle.crn_ring.specs.Calls.{AfterPublishMany, IsProducerOf, producer_part, spec_of};
+ghost use Rattle.crn_ring.specs.Calls.{IsProducerOf, producer_part, spec_of};
 ghost use Rattle.crn_ring.specs.Gates.{HaveRoom};
 ghost use Rattle.crn_ring.specs.Parts.{PublishesOnce};
-ghost use Rattle.crn_run.specs.Feeding.{Feeds, PublishesBatch};
+ghost use Rattle.crn_run.specs.Feeding.{AfterOffer, Feeds, OffersAll, PublishesBatch};
 
 use crate::batch::{BATCH, room};
 use crate::waiting::Waiting;
 use crn_cipher::{Block, fill_blocks};
 use crn_ring::{Producer, PublishMany, Ring};
-use std::snapshot::Snapshot;
 use std::sync::Wait;
 
 /// Publishes all blocks of the ring's stream that are not published yet, in batches of at most 16, and then marks the end. If
@@ -34,7 +33,7 @@ pub fn feed<R: Wait>(rt: &R, ring: &Ring, producer: &mut Producer)
 {
     let total = ring.spec().id.total;
     let mut room = room();
-    let mut waiting = Waiting::new();
+    let mut waiting = Waiting::new(&*producer);
     for _ in rt.forever() {
         if producer.published() == total {
             producer.finish(ring);
@@ -52,7 +51,7 @@ fn publish_batch<R: Wait>(
     ring: &Ring,
     producer: &mut Producer,
     room: &mut [Block],
-    waiting: &mut Waiting,
+    waiting: &mut Waiting<Producer>,
 )
     requires of { IsProducerOf ring.now producer.old }
     requires running { (producer_part producer.old).ended ≡ false }
@@ -60,7 +59,7 @@ fn publish_batch<R: Wait>(
     requires room { length room.old ≡ BATCH }
     ensures of { IsProducerOf ring.now producer.new }
     ensures room { length room.new ≡ BATCH }
-    ensures batch { PublishesBatch (spec_of ring.now) (producer_part producer.old) (producer_part producer.new) }
+    ensures batch { PublishesBatch (spec_of ring.now) (producer_part producer.old) waiting.old.counted (producer_part producer.new) waiting.new.counted }
 {
     let id = ring.spec().id;
     let n = producer.published();
@@ -76,7 +75,7 @@ fn publish_all<R: Wait>(
     ring: &Ring,
     producer: &mut Producer,
     blocks: &[Block],
-    waiting: &mut Waiting,
+    waiting: &mut Waiting<Producer>,
 )
     requires of { IsProducerOf ring.now producer.old }
     requires running { (producer_part producer.old).ended ≡ false }
@@ -86,6 +85,7 @@ fn publish_all<R: Wait>(
     ensures running { (producer_part producer.new).ended ≡ false }
     ensures published { (producer_part producer.new).published ≡ (producer_part producer.old).published + length blocks.now }
     ensures once { HaveRoom (spec_of ring.now) (producer_part producer.old) (length blocks.now) → PublishesOnce (spec_of ring.now) (producer_part producer.old) (producer_part producer.new) (length blocks.now) }
+    ensures looks { (count : ℕ) × OffersAll count (spec_of ring.now) ((producer_part producer.old).published + length blocks.now) (producer_part producer.old) waiting.old.counted (producer_part producer.new) waiting.new.counted }
 {
     let mut start = 0;
     for _ in rt.forever() {
@@ -111,23 +111,23 @@ fn publish_or_wait<R: Wait>(
     ring: &Ring,
     producer: &mut Producer,
     blocks: &[Block],
-    waiting: &mut Waiting,
+    waiting: &mut Waiting<Producer>,
 ) -> PublishMany
     requires of { IsProducerOf ring.now producer.old }
     requires running { (producer_part producer.old).ended ≡ false }
     requires blocks { (0 < length blocks.now) × ((producer_part producer.old).published + length blocks.now ≤ (spec_of ring.now).id.total) × FollowOn (spec_of ring.now).id.key (producer_part producer.old).published (length blocks.now) blocks.now }
     ensures of { IsProducerOf ring.now producer.new }
-    ensures answer { AfterPublishMany (spec_of ring.now) (producer_part producer.old) (producer_part producer.new) (length blocks.now) result }
+    ensures answer { AfterOffer (spec_of ring.now) (length blocks.now) (producer_part producer.old) waiting.old.counted (producer_part producer.new) waiting.new.counted result }
     ensures quiet { HaveRoom (spec_of ring.now) (producer_part producer.old) (length blocks.now) → (producer_part producer.new).loads ≡ (producer_part producer.old).loads }
 {
-    let before = Snapshot::of(&*producer);
+    waiting.before_look(&*producer);
     let published = producer.publish_batch(ring, blocks);
     if let PublishMany::Full {
         reader: _,
         taken: _,
     } = published
     {
-        waiting.wait_for_slot(rt, ring, &before, producer);
+        waiting.wait_for_slot(rt, ring, producer);
     }
     published
 }

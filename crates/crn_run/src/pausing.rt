@@ -3,15 +3,16 @@ ghost use Rattle.std.specs.Prelude.{◌≡◌};
 ghost use Rattle.crn_run.specs.declared.pausing.Pause.TheVariants.{Spin, Yield, Sleep};
 
 use crossbeam_utils::Backoff;
+use std::hint;
 use std::sync::Wait;
 use std::thread::Parker;
 use std::time::Duration;
 
-/// What a thread does before its next look at the ring.
-#[derive(Clone, Copy, Debug, PartialEq, Eq)]
+/// What a thread does before its next look at the ring. It can be made once.
+#[derive(Drop)]
 pub(crate) enum Pause {
-    /// Keeps its processor busy for some tens of instructions.
-    Spin,
+    /// Keeps its processor busy, for so many hints that it spins.
+    Spin(u32),
     /// Lets another thread have its processor.
     Yield,
     /// Sleeps for this time.
@@ -28,8 +29,6 @@ pub(crate) struct Paused {
 /// What makes the pauses of one thread.
 #[derive(Drop)]
 pub(crate) struct Pauses {
-    // It spins for longer with each wait for the same block.
-    spinning: Backoff,
     // It is never reset, so that all but its first seven snoozes yield.
     yielding: Backoff,
     // Nobody wakes it, so that its sleep is over when the time is.
@@ -40,15 +39,9 @@ impl Pauses {
     /// Returns what makes the pauses of a thread that has not paused yet.
     pub(crate) fn new() -> Pauses {
         Pauses {
-            spinning: Backoff::new(),
             yielding: Backoff::new(),
             sleeper: Parker::new(),
         }
-    }
-
-    /// Lets the next spin be as short as the first.
-    pub(crate) fn begin_anew(&self) {
-        self.spinning.reset();
     }
 
     /// Makes a pause.
@@ -56,18 +49,24 @@ impl Pauses {
         ensures { result.pause ≡ pause }
     {
         match pause {
-            Pause::Spin => self.spin(),
+            Pause::Spin(hints) => self.spin(hints),
             Pause::Yield => self.give_way(),
             Pause::Sleep(time) => self.sleep(rt, time),
         }
     }
 
-    // Spins.
-    fn spin(&self) -> Paused
-        ensures { result.pause ≡ Spin }
+    // Spins for so many hints, and counts them.
+    fn spin(&self, hints: u32) -> Paused
+        ensures { result.pause ≡ Spin hints }
     {
-        self.spinning.spin();
-        Paused { pause: Pause::Spin }
+        let mut made = 0;
+        while made < hints {
+            hint::spin_loop();
+            made += 1;
+        }
+        Paused {
+            pause: Pause::Spin(made),
+        }
     }
 
     // Yields.

@@ -8,8 +8,8 @@ ghost use Rattle.crn_sequential.specs.Runs.{StandsBefore};
 ghost use Rattle.crn_run.specs.declared.worker.PolicyEnd.TheVariants.{Reached, Short};
 ghost use Rattle.crn_run.specs.Ends.{EndsAs, is_held};
 ghost use Rattle.crn_run.specs.Gates.{HeldAt, PassedUpTo, WasAsked};
+ghost use Rattle.crn_run.specs.Turns.{AfterTurn, RunsByTurns, WaitsAfter};
 ghost use Rattle.crn_run.specs.Inner.Ends.{Advances};
-ghost use Rattle.crn_run.specs.Inner.Turns.{AfterTurn};
 
 use crate::batch::room;
 use crate::gate::{Gate, Permit, ask};
@@ -18,7 +18,6 @@ use crn_cipher::Block;
 use crn_ring::{Batch, LeftReader, Reader, Ring};
 use crn_stock::laws::onward_from_itself;
 use crn_stock::{Policy, Scenario, State, Terms};
-use std::snapshot::Snapshot;
 use std::sync::Wait;
 
 /// How the run of one policy has ended.
@@ -58,6 +57,7 @@ pub enum PolicyEnd {
 /// - The state is of the scenario's model and stands between two blocks.
 /// - The ring has the scenario's key and a total of at most the scenario's.
 /// - The gate has not answered false.
+#[tactic(auto, using(crate::proofs::Turning::next_turn))]
 pub fn run_policy<R: Wait, G: Gate>(
     rt: &R,
     ring: &Ring,
@@ -75,11 +75,12 @@ pub fn run_policy<R: Wait, G: Gate>(
     ensures end { EndsAs scenario.now policy state ring.now (reader_number reader) result }
     ensures held { G.refused gate.new ≡ is_held result }
     ensures asked { WasAsked G.asked policy (next_block state) result gate.old gate.new }
+    ensures turns { RunsByTurns (spec_of ring.now) (reader_part reader) result }
 {
     let rules = &scenario.policies()[policy as usize];
     onward_from_itself(&state);
     let mut blocks = room();
-    let mut waiting = Waiting::new();
+    let mut waiting = Waiting::new(&reader);
     for _ in rt.forever() {
         match take_or_wait(rt, ring, &mut reader, &mut blocks, &mut waiting) {
             Batch::Got { count } => {
@@ -102,13 +103,14 @@ fn take_or_wait<R: Wait>(
     ring: &Ring,
     reader: &mut Reader,
     blocks: &mut [Block],
-    waiting: &mut Waiting,
+    waiting: &mut Waiting<Reader>,
 ) -> Batch
     requires reader { IsReaderOf ring.now reader.old × ((reader_part reader.old).seen_end ≡ false) }
     requires places { 0 < length blocks.old }
     ensures reader { IsReaderOf ring.now reader.new × (reader_number reader.new ≡ reader_number reader.old) }
     ensures places { length blocks.new ≡ length blocks.old }
     ensures answer { AfterTurn (spec_of ring.now) (reader_part reader.old) (reader_part reader.new) blocks.old blocks.new result }
+    ensures waits { WaitsAfter (spec_of ring.now) (reader_part reader.new) waiting.old.counted waiting.new.counted result }
     ensures within { (reader_part reader.new).taken ≤ (spec_of ring.now).id.total }
 {
     let count = reader.take_shown(ring, blocks);
@@ -125,19 +127,20 @@ fn look_or_wait<R: Wait>(
     ring: &Ring,
     reader: &mut Reader,
     blocks: &mut [Block],
-    waiting: &mut Waiting,
+    waiting: &mut Waiting<Reader>,
 ) -> Batch
     requires reader { IsReaderOf ring.now reader.old × ((reader_part reader.old).seen_end ≡ false) }
     requires places { 0 < length blocks.old }
     ensures reader { IsReaderOf ring.now reader.new × (reader_number reader.new ≡ reader_number reader.old) }
     ensures places { length blocks.new ≡ length blocks.old }
     ensures answer { AfterBatch (spec_of ring.now) (reader_part reader.old) (reader_part reader.new) blocks.old blocks.new result }
+    ensures waits { WaitsAfter (spec_of ring.now) (reader_part reader.new) waiting.old.counted waiting.new.counted result }
     ensures within { (reader_part reader.new).taken ≤ (spec_of ring.now).id.total }
 {
-    let before = Snapshot::of(&*reader);
+    waiting.before_look(&*reader);
     let batch = reader.take_batch(ring, blocks);
     if let Batch::Empty { published: _ } = batch {
-        waiting.wait_for_block(rt, ring, &before, reader);
+        waiting.wait_for_block(rt, ring, reader);
     }
     batch
 }

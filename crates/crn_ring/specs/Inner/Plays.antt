@@ -1,6 +1,6 @@
 -- What a seat's view is after many steps of one kind.
 use Rattle.std.specs.Prelude.{◌≡◌, ℕ, ◌+◌, ◌<◌, ◌≤◌, List, ◌++◌, length, slice_index}
-use Rattle.crn_ring.specs.declared.view.View.{View}
+use Rattle.crn_steps.specs.declared.view.View.{View}
 use Rattle.crn_ring.specs.Gates.{Passes, Loaded}
 
 -- the views after many stores, and after many loads, of words

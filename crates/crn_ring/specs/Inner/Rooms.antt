@@ -3,14 +3,14 @@ use Rattle.std.specs.Prelude.{◌≡◌, ℕ, ◌+◌, ◌<◌, ◌≤◌, ◌�
 use Rattle.crn_proto.specs.declared.spec.RingSpec.{RingSpec}
 use Rattle.crn_proto.specs.declared.actor_parts.ProducerPart.{ProducerPart}
 use Rattle.crn_proto.specs.Ring.{LoadGate}
-use Rattle.crn_ring.specs.declared.view.View.{View}
+use Rattle.crn_steps.specs.declared.view.View.{View}
 use Rattle.crn_ring.specs.declared.room.Gauge.{Gauge}
 use Rattle.crn_ring.specs.declared.room.Gauge.TheVariants as Gate
 use Rattle.crn_ring.specs.declared.room.Room.{Room}
 use Rattle.crn_ring.specs.declared.room.Room.TheVariants.{Blocks, Full}
 use Rattle.crn_ring.specs.Gates.{HaveRoom, Loaded}
 use Rattle.crn_ring.specs.Inner.Gates.{LeastOf}
-use Rattle.crn_ring.specs.Plays.{by_producer}
+use Rattle.crn_steps.specs.Plays.{by_producer}
 use Rattle.crn_ring.specs.Inner.Plays.{Gauged}
 use Rattle.crn_ring.specs.Parts.{IsFull}
 

@@ -1,8 +1,9 @@
-use Rattle.std.proofs.Common.{rules, ◌≡◌, ◌∙◌, ℕ, ◌-◌, ◌<◌, length, take, drop, ap, arith}
+use Rattle.std.proofs.Common.{rules, ◌≡◌, ◌∙◌, ℕ, ◌-◌, ◌<◌, length, take, drop, refl, ap, arith}
 use Rattle.crn_proto.specs.declared.actor_parts.ProducerPart.{ProducerPart}
 use Rattle.crn_ring.specs.Calls.{producer_part, spec_of}
 use Rattle.crn_ring.specs.Parts.{IsFull, Publishes}
-use Rattle.crn_run.proofs.Publishing.{once_begins, once_done, once_full, rest_follows, rest_length}
+use Rattle.crn_ring.specs.declared.answers.PublishMany.TheVariants.{Done, Full}
+use Rattle.crn_run.proofs.Publishing.{once_begins, once_done, once_full, one_look, rest_follows, rest_length}
 use Rattle.crn_run.proofs.feeding.publish_all.Goals as goal
 
 pub loop-init : goal.loop-init
@@ -12,6 +13,7 @@ loop-init g c = record {
   within = omega arith;
   published = omega arith;
   once = λ _. once_begins (spec_of c.args.ring.now) (length c.args.blocks.now) (producer_part c.args.producer.now);
+  looks = (0, (refl, refl));
 }
 
 pub returns-then-start-blocks-clause-once : goal.returns-then-start-blocks-clause-once
@@ -46,6 +48,8 @@ loop-preserved-in-Done g c =
       within = omega (arith, done.at_most, rest, left);
       published = omega (arith, done.published, c.loop.invariant.published);
       once = once_done spec all start (length (take (all - start) (drop start c.args.blocks.now))) c.in-Done.count p q q' left rest c.loop.invariant.once c.publish_or_wait.ensures.quiet done;
+      looks = one_look spec all start (length (take (all - start) (drop start c.args.blocks.now))) p q q' c.args.waiting.now.counted c.loop.waiting.counted c.publish_or_wait.new.waiting.counted (Done c.in-Done.count)
+          c.loop.invariant.looks left rest c.loop.invariant.published (search rules);
     }
 
 pub loop-preserved : goal.loop-preserved
@@ -66,4 +70,6 @@ loop-preserved g c =
       within = c.loop.invariant.within;
       published = same ∙ c.loop.invariant.published;
       once = once_full spec all start (length (take (all - start) (drop start c.args.blocks.now))) c.in-Full.reader c.in-Full.taken p q q' left rest c.loop.invariant.once c.publish_or_wait.ensures.quiet full;
+      looks = one_look spec all start (length (take (all - start) (drop start c.args.blocks.now))) p q q' c.args.waiting.now.counted c.loop.waiting.counted c.publish_or_wait.new.waiting.counted (Full c.in-Full.reader c.in-Full.taken)
+          c.loop.invariant.looks left rest c.loop.invariant.published (search rules);
     }

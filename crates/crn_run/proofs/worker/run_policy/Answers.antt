@@ -3,12 +3,42 @@ use Rattle.crn_stock.specs.Stock.{next_block}
 use Rattle.crn_ring.specs.Calls.{reader_number, reader_part, spec_of}
 use Rattle.crn_ring.specs.Parts.{SeesEnd}
 use Rattle.crn_run.specs.Inner.Ends.{Advances}
-use Rattle.crn_run.specs.Inner.Turns.{TakesNext}
-use Rattle.crn_run.proofs.Asking.{held_then, passed_then}
+use Rattle.crn_run.specs.Turns.{TakesNext}
+use Rattle.crn_run.proofs.Asking.{held_then, passed_none, passed_then}
 use Rattle.crn_run.proofs.Ending.{asked_whole, ends_as}
 use Rattle.crn_run.proofs.Advancing.{advances_then, advanced, follow_from, taken_on}
+use Rattle.crn_run.proofs.Turning.{by_turns, next_turn, no_turn}
 use Rattle.crn_sequential.proofs.Running.{read_policy}
 use Rattle.crn_run.proofs.worker.run_policy.Goals as goal
+
+pub loop-init : goal.loop-init
+loop-init g c = record {
+  reader = search rules;
+  number = search rules;
+  running = search rules;
+  taken = search rules;
+  advances = search rules;
+  places = search rules;
+  gate = c.requires.gate;
+  turns = no_turn (spec_of c.args.ring.now) (reader_part c.args.reader) _ c.new-waiting.ensures.counted;
+  passed = passed_none g.G.Gate.asked c.args.policy (next_block c.args.state) c.args.gate.now;
+}
+
+pub returns-then-not-apply_all-clause-turns : goal.returns-then-not-apply_all-clause-turns
+returns-then-not-apply_all-clause-turns g c =
+    let turns = next_turn (spec_of c.args.ring.now) (reader_part c.args.reader) (reader_part c.loop.reader) (reader_part c.take_or_wait.new.reader) c.loop.waiting.counted c.take_or_wait.new.waiting.counted c.loop.blocks c.take_or_wait.new.blocks
+    c.take_or_wait.result c.loop.invariant.turns c.loop.invariant.places c.take_or_wait.ensures.answer c.take_or_wait.ensures.waits in (
+      c.take_or_wait.new.waiting.counted,
+      reader_part c.take_or_wait.new.reader,
+      turns,
+      search rules,
+    )
+
+pub returns-in-Ended-clause-turns : goal.returns-in-Ended-clause-turns
+returns-in-Ended-clause-turns g c =
+    let turns = next_turn (spec_of c.args.ring.now) (reader_part c.args.reader) (reader_part c.loop.reader) (reader_part c.take_or_wait.new.reader) c.loop.waiting.counted c.take_or_wait.new.waiting.counted c.loop.blocks c.take_or_wait.new.blocks
+    c.take_or_wait.result c.loop.invariant.turns c.loop.invariant.places c.take_or_wait.ensures.answer c.take_or_wait.ensures.waits in
+    by_turns (spec_of c.args.ring.now) (reader_part c.args.reader) c.in-Ended.published (spec_of c.args.ring.now).id.total c.loop.state c.take_or_wait.new.reader c.ended.result c.take_or_wait.new.waiting.counted turns c.ended.ensures.total c.ended.ensures.early
 
 pub apply_all-requires-clause-blocks : goal.apply_all-requires-clause-blocks
 apply_all-requires-clause-blocks g c =
@@ -51,6 +81,8 @@ loop-preserved-else-not-apply_all g c =
       advances = advances_then s.model p s.key c.args.state c.loop.state c.apply_all.new.state c.loop.invariant.advances c.apply_all.ensures.advances;
       places = search rules;
       gate = search rules;
+      turns = next_turn (spec_of c.args.ring.now) (reader_part c.args.reader) (reader_part c.loop.reader) (reader_part c.take_or_wait.new.reader) c.loop.waiting.counted c.take_or_wait.new.waiting.counted c.loop.blocks c.take_or_wait.new.blocks
+          c.take_or_wait.result c.loop.invariant.turns c.loop.invariant.places c.take_or_wait.ensures.answer c.take_or_wait.ensures.waits;
       passed = passed_then g.G.Gate.asked c.args.policy (next_block c.args.state) (next_block c.loop.state) (next_block c.apply_all.new.state) c.args.gate.now c.loop.gate c.apply_all.new.gate c.loop.invariant.passed (c.apply_all.ensures.passed (search rules));
     }
 

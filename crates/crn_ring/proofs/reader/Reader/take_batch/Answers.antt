@@ -3,7 +3,7 @@ use Rattle.crn_cipher.specs.declared.TheConstants.{BLOCK_WORDS}
 use Rattle.crn_proto.specs.Chains.{ReaderReaches}
 use Rattle.crn_ring.proofs.Bounds.{reader_steps}
 use Rattle.crn_ring.proofs.Rooms.{take_moves}
-use Rattle.crn_ring.specs.Seats.{reader_in}
+use Rattle.crn_steps.specs.Seats.{reader_in}
 use Rattle.crn_ring.proofs.reader.Reader.take_batch.Goals as goal
 
 pub returns-clause-moves : goal.returns-clause-moves

@@ -8,7 +8,7 @@ use Rattle.crn_ring.proofs.ring.Ring.load_row.Goals as goal
 
 pub returns-clause-words : goal.returns-clause-words
 returns-clause-words c = let inv = c.loop-i.invariant in let e : c.loop-i.i ≡ BLOCK_WORDS = omega arith in
-    whole_row c.args.self.now.spec.id.key c.args.n c.loop-i.words inv.2 (λ j few. inv.4 j (omega arith))
+    whole_row c.args.self.now.words.spec.id.key c.args.n c.loop-i.words inv.2 (λ j few. inv.4 j (omega arith))
 
 pub loop-i-preserved : goal.loop-i-preserved
 loop-i-preserved c = let inv = c.loop-i.invariant in (

@@ -1,0 +1,10 @@
+pub mod Allowed
+pub mod Beginning
+pub mod Bounds
+pub mod Ending
+pub mod Going
+pub mod Lists
+pub mod Opened
+pub mod Rows
+pub mod Schedules
+pub mod Slots

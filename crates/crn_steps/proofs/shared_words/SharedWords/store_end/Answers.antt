@@ -1,0 +1,14 @@
+use Rattle.std.proofs.Common.{rules, ap, sym, ◌+◌, ◌*◌, arith}
+use Rattle.crn_steps.proofs.Allowed.{stores_end}
+use Rattle.crn_steps.proofs.Bounds.{producer_goes}
+use Rattle.crn_steps.proofs.shared_words.SharedWords.store_end.Goals as goal
+
+pub store-requires : goal.store-requires
+store-requires c = let at = c.requires.at in let spec = c.args.self.now.spec in (
+  search rules,
+  omega (arith, c.args.self.now.counted),
+  rw c.args.self.now.keyed (stores_end _ _ _ _ c.requires.own.0.1 c.requires.own.1 _ (ap (λ z. 2 * z + 1) (sym at.2)) (at.0, at.1)),
+)
+
+pub returns-clause-moved : goal.returns-clause-moved
+returns-clause-moved c = producer_goes _ _ _ _ _ _ c.requires.own.0.1 c.store.ensures.2

@@ -1,0 +1,1 @@
+"""Tests of what the functions of the program call and make."""
