@@ -48,8 +48,7 @@ def cost_of(
         backlog=master["backlog"],
         today=(int(master["s"]), int(master["S"])),
     )
-    costs = scenario.long_run(policies, keys=16).frame["cost"]
-    return costs / float(scenario.scale)
+    return scenario.long_run(policies, keys=16).frame["cost"]
 
 
 def main() -> pd.DataFrame:

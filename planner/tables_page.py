@@ -6,7 +6,7 @@ from pathlib import Path
 
 from crnplan.crnsim import report, trajectory
 from crnplan.curve import exchange_curve
-from crnplan.decide import doubt, long_run, sensitivity, verdicts
+from crnplan.decide import doubt, long_run, verdicts
 from crnplan.show import (
     backtest_tables,
     calendars,
@@ -17,7 +17,11 @@ from crnplan.show import (
     lateness,
 )
 from crnplan.show.today_tables import TABLES as ON_A_DAY
+from crnplan.given import words_of
 from crnplan.plan import what_ifs
+from crnplan.plan.how import Settings
+from crnplan.read.items import Reading
+from crnplan.read.told import COLUMNS
 from crnplan.table import Column
 from crnplan.theory import suggestions
 
@@ -25,9 +29,16 @@ PAGE = Path(__file__).parents[1] / "docs/TABLES.md"
 HEAD = """# The tables of crnplan
 
 Each table is declared once, in Python; this page follows from that. A file has a heading and a row for each item, policy or period, in
-UTF-8 with commas; by `--csv-style de` or `fr` with semicolons, decimal commas and a byte order mark. A text that a spreadsheet would
-run as a formula stands behind an apostrophe. Data frames, JSON and workbooks have the same columns, unrounded. Money is that of the
+UTF-8 with commas; only orders of suppliers have semicolons, decimal commas and a byte order mark by `today --csv-style de` or `fr`. A text
+that a spreadsheet would run as a formula stands behind an apostrophe. Data frames, JSON and workbooks have the same columns, unrounded. Money is that of the
 masters or settings, in files with as many decimals as its smallest unit has. `-` or an empty cell stands for no figure.
+"""
+WORDS = """
+## crnplan.toml
+
+The keys of the table `[catalogue]`, which are arguments of calls and fields of the desk too. A value is read alike wherever it is said: a
+share is `95%` or `0.95`, a table of names is a table or texts `NAME=VALUE`. Tables `[catalogue.demand]`, `[catalogue.items]` and so on have
+the columns of a table by their roles.
 """
 AS_ORDERS = "Other columns are as in `today_orders.csv`."
 
@@ -42,9 +53,9 @@ TABLES: Mapping[str, tuple[str, Sequence[Column]]] = {
         "A planned catalogue: a row for each item, by name.",
         catalogue_tables.DECISION_COLUMNS,
     ),
-    "exact.csv": (
-        "The run of each item, exactly: fractions stand as `3/4`.",
-        catalogue_tables.EXACT_COLUMNS,
+    "details.csv": (
+        "All else on the items of `decisions.csv`, in the same rows.",
+        catalogue_tables.DETAIL_COLUMNS,
     ),
     "controls, summary.txt, today_controls.csv": (
         "Control totals: what the files come to, by what became of their rows.",
@@ -118,30 +129,26 @@ TABLES: Mapping[str, tuple[str, Sequence[Column]]] = {
         f"{AS_ORDERS}",
         more(ON_A_DAY["at_risk"]),
     ),
-    "policies.csv": (
-        "The policies of an item that is planned alone, the cheapest first.",
+    "PlannedItem.compare": (
+        "The policies of an item, in Python, the cheapest first.",
         item_page.POLICY_COLUMNS,
     ),
-    "coming.csv": (
-        "The same over the coming periods, with `[run] horizon`.",
-        item_page.COMING_COLUMNS,
-    ),
-    "doubt.csv, crnplan doubt": (
+    "PlannedItem.doubt": (
         "Policies under the laws that a history allows. A column stands if there is a figure.",
         doubt.COLUMNS,
     ),
-    "sensitivity.csv": ("How the best policy of an item moves.", what_ifs.COLUMNS),
-    "trajectory.csv, crnplan trajectory": (
+    "PlannedItem.moves": ("How the best policy of an item moves.", what_ifs.COLUMNS),
+    "crnplan.trajectories": (
         "Policies period by period.",
         trajectory.COLUMNS,
     ),
-    "laws.csv": ("The laws of an item.", item_page.LAW_COLUMNS),
+    "The laws of an item": ("On its page.", item_page.LAW_COLUMNS),
     "crnplan suggest": (
         "Suggested policies.",
         suggestions.COLUMNS,
     ),
-    "crnplan run": ("A report of crnsim, exactly.", report.COLUMNS),
-    "crnplan decide, crnplan check": (
+    "crnplan run --out": ("A report of crnsim, exactly.", report.COLUMNS),
+    "crnplan run": (
         "Policies beside the base, over the coming periods.",
         verdicts.COLUMNS,
     ),
@@ -150,10 +157,6 @@ TABLES: Mapping[str, tuple[str, Sequence[Column]]] = {
         verdicts.LONG_RUN_COLUMNS,
     ),
     "Scenario.long_run": ("Figures of the long run, in Python.", long_run.COLUMNS),
-    "crnplan sensitivity": (
-        "What a policy costs too much, here in the cases `base` and `demand_up`.",
-        sensitivity.regret_columns(["base", "demand_up"]),
-    ),
 }
 
 
@@ -166,13 +169,25 @@ def page_of(columns: Sequence[Column]) -> str:
     return "| Column | Unit | Meaning |\n|---|---|---|\n" + "".join(rows)
 
 
+def words_page() -> str:
+    """Returns the words of reading and planning as a table of a page in Markdown, by their keys."""
+    rows = list[str]()
+    for word in words_of(Reading, Settings).values():
+        if word.key and word.name != COLUMNS:
+            kind = word.kind.type.replace("|", "or")
+            stated = word.default not in (None, (), "", {})
+            default = f"; `{word.default}`" if stated else ""
+            rows.append(f"| `{word.key}` | {kind}{default} | {word.help} |\n")
+    return f"{WORDS}\n| Key | Type; default | Meaning |\n|---|---|---|\n{''.join(rows)}"
+
+
 def page() -> str:
     """Returns the page."""
     parts = (
         f"\n## {name}\n\n{words}\n\n{page_of(columns)}"
         for name, (words, columns) in TABLES.items()
     )
-    return HEAD + "".join(parts)
+    return HEAD + "".join(parts) + words_page()
 
 
 if __name__ == "__main__":

@@ -20,7 +20,7 @@ from crnplan.plan.catalogue import ANSWERS
 from crnplan.plan.learned import learned_of
 from crnplan.plan.how import ALL, Settings
 from crnplan.plan.question import Question, question_of
-from crnplan.read.items import Words
+from crnplan.read.items import Reading
 from crnplan.read.catalogue_reading import CATALOGUE, Catalogued, read_alone
 from crnplan.read.item import Item
 from crnplan.plan.answer import Answer
@@ -133,7 +133,7 @@ def batches_of(
 def compare(folder: Path, items: int, jobs: int) -> list[Compared]:
     """Makes a catalogue in a folder, and compares both on all items that can be compared."""
     made, plan = make(folder / "files", items), folder / "plan"
-    path = read_alone(plan, made.paths, Words(), jobs)
+    path = read_alone(plan, made.paths, Reading(), jobs)
     with (
         own_folder(plan, CATALOGUE) as own,
         contextlib.closing(Catalogued(path)) as read,

@@ -17,7 +17,7 @@ import click
 
 from crnplan.curve import gathered
 from crnplan.show.catalogue_page import MOST_ROWS, PAGE
-from crnplan.show.catalogue_tables import DECISIONS, EXACT
+from crnplan.show.catalogue_tables import DECISIONS, DETAILS
 from crnplan.plan.catalogue import ANSWERS, PlannedFolder, planned_folder
 from crnplan.plan.survey import Survey
 from crnplan.read.catalogue_reading import CATALOGUE, READ
@@ -48,7 +48,14 @@ def bytes_of(plan: PlannedFolder, items: int) -> Iterator[Measured]:
         SENT, (READ, ANSWERS, gathered.CANDIDATES), ("items", "answers", "answers")
     ):
         yield what, row_bytes(folder / name, table), "bytes an item"
-    for name in (READ, ANSWERS, gathered.CANDIDATES, gathered.HULLS, DECISIONS, EXACT):
+    for name in (
+        READ,
+        ANSWERS,
+        gathered.CANDIDATES,
+        gathered.HULLS,
+        DECISIONS,
+        DETAILS,
+    ):
         yield f"{Path(name).name}, on disk", (
             folder / name
         ).stat().st_size / items, "bytes an item"

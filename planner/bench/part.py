@@ -12,7 +12,7 @@ from pathlib import Path
 
 import click
 
-from crnplan.read.items import Words
+from crnplan.read.items import Reading
 from crnplan.read.catalogue_reading import CATALOGUE, READ, Catalogued, read_alone
 from crnplan.store.files import own_folder
 from planner.bench.made import Made
@@ -22,7 +22,7 @@ FILES, PLAN = "files", "plan"
 
 def read(folder: Path, jobs: int) -> None:
     """Reads the files."""
-    read_alone(folder / PLAN, Made(folder / FILES).paths, Words(), jobs)
+    read_alone(folder / PLAN, Made(folder / FILES).paths, Reading(), jobs)
 
 
 def learn(folder: Path, jobs: int) -> None:
@@ -70,7 +70,7 @@ def today(folder: Path, jobs: int) -> None:
     """Says what to order, by the stock of the masters."""
     from crnplan.show.today_tables import orders_today
 
-    click.echo(orders_today(folder / PLAN, {}, Words(), None).text)
+    click.echo(orders_today(folder / PLAN, {}, Reading(), None).text)
 
 
 def workbook(folder: Path, jobs: int) -> None:

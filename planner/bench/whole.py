@@ -45,8 +45,8 @@ class House(NamedTuple):
                 python,
                 "-m",
                 "crnplan",
-                "item",
-                *map(str, (case / "history.csv", case / "settings.toml")),
+                "catalogue",
+                *map(str, (case / "history.csv", case / "items.csv")),
                 "--out",
                 str(self.folder / ITEM),
             ]

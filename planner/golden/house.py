@@ -6,24 +6,30 @@ tables, down to numbers, texts and lists of them, unrounded.
 from __future__ import annotations
 
 import contextlib
-import tempfile
+import itertools
 from collections.abc import Iterable, Mapping, Sequence
-from dataclasses import asdict
+from dataclasses import asdict, replace
+from fractions import Fraction
 from pathlib import Path
 from typing import Any
 
 import crnplan as crn
 from crnplan.curve.gathered import CANDIDATES, OnCurve
-from crnplan.decide.keys import check_long_run
-from crnplan.decide.long_run import corrected_decision
+from crnplan.decide.doubt import Doubt
+from crnplan.decide.long_run import LongRunReport
 from crnplan.demand.checks import check_history
+from crnplan.demand.posterior import allowed_laws, allowed_leads
 from crnplan.plan.answer import CHOSEN, Answer
 from crnplan.plan.catalogue import planned_folder
-from crnplan.plan.item import Depth, planned, read_item
+from crnplan.plan.how import NONE, Settings
+from crnplan.plan.item import Depth, depth_of
+from crnplan.plan.one import plan_one
+from crnplan.plan.question import question_of
 from crnplan.read.catalogue_reading import READ, Catalogued
 from crnplan.read.item import Item
 from crnplan.remarks import Remark
 from crnplan.store.stored import Store
+from crnplan.theory.many_laws import figures_of_laws
 from crnplan.theory.suggestions import suggestions_of
 
 Figures = dict[str, Any]
@@ -81,7 +87,8 @@ def run_rows(scenario: crn.Scenario, program: str) -> Figures:
     found = {"rows": by_policy(map(asdict, report.rows))}
     if scenario.replications > 1:
         found["decided"] = by_frame(report.decide())
-        found["corrected"] = by_frame(corrected_decision(report.rows, scenario))
+        corrected = LongRunReport.of(report.rows, scenario, scenario.replications)
+        found["corrected"] = by_frame(corrected.decide())
     return found
 
 
@@ -105,31 +112,35 @@ def theory_rows(
 def long_run_rows(scenario: crn.Scenario, program: str, keys: int) -> Figures:
     """Returns the long run by the program, and its check under new keys."""
     report = scenario.long_run(keys=keys, program=program)
-    best = scenario.policies[-1].name
-    check = check_long_run(
-        scenario, best, keys=[["2b7e151628aed2a7"]], runs=keys, program=program
-    )
+    *others, best = scenario.policies
+    checked = replace(scenario, key=("2b7e151628aed2a7", *scenario.key[1:]))
+    check = checked.with_policies([best, *others]).long_run(keys=keys, program=program)
     return {
         "rows": by_policy(map(asdict, report.rows)),
         "decision": by_frame(report.decide()),
-        "check": by_frame(check.decision),
+        "check": by_frame(check.decide()),
     }
 
 
-def sensitivity_rows(scenario: crn.Scenario, program: str) -> Figures:
-    """Returns what each policy costs too much in each case."""
-    return {"losses": by_frame(crn.sensitivity(scenario, program=program))}
+def suggested(
+    scenario: crn.Scenario, counts: Sequence[int], leads: Sequence[int]
+) -> crn.Scenario:
+    """Returns a scenario with suggested policies: also those that keep a fill rate under most laws that a history allows."""
+    laws = allowed_laws(counts).laws, allowed_leads(leads).laws
+    return crn.Scenario.parse(suggestions_of(scenario, *laws).toml())
 
 
 def doubt_rows(scenario: crn.Scenario, counts: Any, leads: Any) -> Figures:
     """Returns the figures of policies under the laws that a history allows."""
-    return by_frame(crn.doubt(scenario, counts, leads))
+    laws = [*zip(allowed_laws(counts).laws, allowed_leads(leads).laws)]
+    figures = figures_of_laws(scenario, laws, scenario.policies)
+    return by_frame(Doubt(scenario.policies, figures))
 
 
 def sweep_rows(scenario: crn.Scenario, program: str) -> Figures:
     """Returns the exact rows of a grid of policies."""
-    report = crn.sweep(scenario, range(6, 17, 5), range(20, 41, 10), program=program)
-    return by_policy(map(asdict, report.rows))
+    grid = itertools.product(range(6, 17, 5), range(20, 41, 10))
+    return by_policy(map(asdict, scenario.run([*grid], program=program).rows))
 
 
 def drawn_stocks(scenario: crn.Scenario, program: str, periods: int) -> Figures:
@@ -258,51 +269,30 @@ def candidate_rows(folder: Path, names: Iterable[str]) -> dict[str, Figures]:
     return found
 
 
-SETTINGS = """
-[history]
-demand = "demand"
-every = "week"
-[lead]
-times = {leads}
-[costs]
-setup = {setup}
-holding = {holding}
-backlog = {backlog}
-[today]
-s = {s}
-S = {S}
-stock = {S}
-[run]
-name = "{name}"
-"""
-
-
 def item_rows(name: str, item: Item, program: str) -> Figures:
     """Plans an item alone, and returns each figure: of theory, of the program, of doubt and the moves."""
     assert item.backlog is not None
     holding = float(
         f"{float(item.holding):.1g}"
     )  # so that all costs are whole numbers of one unit
-    text = SETTINGS.format(
-        name=name,
-        leads=[*item.leads],
-        s=item.levels[0],
-        S=item.levels[1],
-        setup=item.setup,
-        holding=f"{holding:.6f}",
-        backlog=f"{round(item.backlog / item.holding) * holding:.6f}",
+    backlog = round(item.backlog / item.holding) * holding
+    alone = Item(
+        name,
+        item.counts,
+        item.leads,
+        item.levels,
+        item.setup,
+        Fraction(f"{holding:.6f}"),
+        Fraction(f"{backlog:.6f}"),
+        stock=Fraction(item.levels[1]) if item.levels else None,
     )
-    with tempfile.TemporaryDirectory() as room:
-        folder = Path(room)
-        (folder / "history.csv").write_text(
-            "\n".join(["demand", *map(str, item.counts)]) + "\n", "utf-8"
-        )
-        (folder / "settings.toml").write_text(text, "utf-8")
-        return item_figures(
-            planned(
-                read_item(folder / "history.csv", folder / "settings.toml"), program
-            )
-        )
+    return item_figures(planned(alone, program))
+
+
+def planned(item: Item, program: str) -> Depth:
+    """Plans an item alone, and returns the deeper look at it."""
+    question = question_of(item, Settings(borrow=NONE))
+    return depth_of(question, plan_one(question, program), program)
 
 
 def item_figures(depth: Depth) -> Figures:

@@ -5,6 +5,7 @@ import csv
 import tempfile
 from collections.abc import Callable
 from concurrent.futures import ProcessPoolExecutor
+from dataclasses import replace
 from functools import partial
 from pathlib import Path
 from typing import Any
@@ -38,32 +39,28 @@ def scenarios(program: str, jobs: int) -> Figures:
             "run": house.run_rows(scenario, program),
             "theory": house.theory_rows(scenario),
             "long_run": house.long_run_rows(scenario, program, KEYS),
-            "sensitivity": house.sensitivity_rows(scenario, program),
             "trajectory": house.drawn_stocks(scenario, program, 8),
         }
     return found
 
 
 def case(program: str, jobs: int) -> Figures:
-    """Returns the figures of the worked case, from its history to its doubt, and of `crnplan item` on it."""
+    """Returns the figures of the worked case, from its history to its doubt, and of its plan."""
     folder = EXAMPLES / "case"
-    counts = crn.read_history(folder / "history.csv", demand="demand")
-    leads = crn.read_lead_times(folder / "lead_times.csv", lead="weeks")
-    own, suggested = (
-        crn.Scenario.read(folder / f"{name}.toml") for name in ("scenario", "suggested")
-    )
-    planned = house.item_figures(
-        house.planned(
-            house.read_item(folder / "history.csv", folder / "settings.toml"), program
-        )
-    )
+    files = folder / "history.csv", folder / "items.csv"
+    with crn.read_catalogue(*files).opened() as read:
+        (item,) = read.items()
+    counts, leads = item.counts, item.leads
+    own = crn.Scenario.read(folder / "scenario.toml")
+    suggested = house.suggested(own, counts, leads)
+    # Its random numbers follow from its name.
+    planned = house.planned(replace(item, name="history"), program)
     return {
         "fit": house.fitted(counts, leads),
         "run": house.run_rows(own, program),
         "theory": house.theory_rows(own),
         "long_run": house.long_run_rows(suggested, program, 48),
-        "sensitivity": house.sensitivity_rows(suggested, program),
-        "item": planned,
+        "item": house.item_figures(planned),
         "doubt": house.doubt_rows(suggested, counts, leads),
         "sweep": house.sweep_rows(own, program),
     }

@@ -1,4 +1,4 @@
-"""Writes the tables of README.md beside it from the stored figures of the studies: python -m planner.studies.page.
+"""Writes the tables of tables.md beside it from the stored figures of the studies: python -m planner.studies.page.
 
 A table stands between `<!-- NAME -->` and `<!-- end -->`. Each study has a function `tables`, which returns its tables
 as Markdown by name.
@@ -11,7 +11,7 @@ from pathlib import Path
 
 import pandas as pd
 
-PAGE = Path(__file__).with_name("README.md")
+PAGE = Path(__file__).with_name("tables.md")
 STUDIES = (
     "laws",
     "laws_leads",

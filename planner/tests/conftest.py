@@ -41,7 +41,7 @@ NOBODY = "54321"
 # What `crnplan desk` alone loads, with what that brings.
 OF_THE_DESK = {"flask", "waitress", "werkzeug"}
 HEAVY = {
-    *"babel distributed jinja2 matplotlib numba numpy openpyxl pandas scipy".split(),
+    *"babel distributed jinja2 numba numpy openpyxl pandas scipy".split(),
     *"tomlkit tqdm xlsxwriter".split(),
     *OF_THE_DESK,
 }

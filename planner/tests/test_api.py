@@ -17,13 +17,10 @@ import click
 import numpy
 import pandas as pd
 import pytest
-from matplotlib.axes import Axes
-from matplotlib.figure import Figure
 
 import crnplan as crn
 from crnplan import catalogues
-from crnplan.given import PlanWords
-from crnplan.planned import TodayWords
+from crnplan.show.pictures import Picture
 from crnplan.cli import COMMANDS, Spelling, group
 from crnplan.table import Result
 from planner.tests.conftest import (
@@ -33,6 +30,7 @@ from planner.tests.conftest import (
     cases_beside,
     heavy_of,
 )
+from planner.tests.planned_tables import whole_frame
 from planner.tests import test_layers
 
 CASES = cases_beside(__file__)
@@ -112,7 +110,7 @@ def test_command(name: str) -> None:
     assert (command.epilog or "").startswith(f"Example: crnplan {name}")
 
 
-PARTS = """crnsim.report decide.long_run decide.verdicts decide.keys decide.doubt theory.suggestions theory.many_laws
+PARTS = """crnsim.report decide.long_run decide.verdicts theory.suggestions theory.many_laws
     demand.posterior demand.borrowing curve.exchange_curve""".split()
 
 
@@ -121,8 +119,7 @@ def names_of_types() -> dict[str, object]:
     names: dict[str, object] = {
         "Floats": numpy.ndarray,
         "Whole": numpy.ndarray,
-        "Figure": Figure,
-        "Axes": Axes,
+        "Picture": Picture,
         "pd": pd,
         "np": numpy,
         "Client": object,
@@ -150,8 +147,6 @@ def public() -> Iterator[tuple[str, object]]:
             )
             if not part.startswith("_") and inspect.isfunction(function):
                 yield f"{name}.{part}", function
-    for words in (PlanWords, TodayWords):
-        yield words.__name__, words
 
 
 def has_any(hint: object) -> bool:
@@ -180,13 +175,13 @@ def test_completion(crnplan: Command, monkeypatch: pytest.MonkeyPatch) -> None:
         ("COMP_CWORD", "1"),
     ):
         monkeypatch.setenv(name, value)
-    assert crnplan() == (0, "plain,why\nplain,where\n", "")
+    assert crnplan() == (0, "plain,where\n", "")
     assert Spelling("report")("end", "") == "--to"
 
 
 @pytest.mark.parametrize("command, name, spelt", CASES["spelling"])
 def test_spelling(command: str, name: str, spelt: str) -> None:
-    """An argument is spelt as the option of the command, else as that of catalogue, and for an item as its setting."""
+    """An argument is spelt as the option of the command, else as that of catalogue."""
     assert Spelling(command)(name, "x") == spelt
 
 
@@ -200,22 +195,12 @@ def test_words_of_a_call(few: list[pd.DataFrame]) -> None:
     with pytest.raises(
         TypeError, match=r"^plan\(\) got an unexpected keyword argument 'levle'"
     ):
-        crn.plan(*few, levle=0.9)  # type: ignore[call-arg]
+        crn.plan(*few, levle=0.9)
 
 
-def test_from_a_history_to_a_decision(tmp_path: Path, program: Path) -> None:
+def test_from_a_history_to_a_decision(program: Path) -> None:
     """Each step of a notebook gives what the next one takes, and the figures are exact."""
-    lines = ["Datum;Menge"]
-    for month in range(1, 13):
-        lines += [f"05.{month:02}.2026;3,0", f"19.{month:02}.2026;1,0"]
-    (tmp_path / "movements.csv").write_text("\n".join([*lines, ""]), "utf-8")
-    history = crn.read_history(
-        tmp_path / "movements.csv",
-        demand="Menge",
-        date="Datum",
-        every="week",
-        decimal=",",
-    )
+    history = [3, 0, 1, 0] * 12
     law, lead = crn.fit_demand(history), crn.fit_lead([2, 3, 2, 4])
     part = crn.Scenario.of(
         law, lead, setup=4500, holding=60, backlog=900, today=(15, 30)
@@ -224,7 +209,6 @@ def test_from_a_history_to_a_decision(tmp_path: Path, program: Path) -> None:
     report = part.run(theory, program=program)
     decision = report.decide().frame
 
-    assert sum(history.counts) == 12 * 4
     assert law == crn.fit_demand(history, method="auto")
     assert lead == crn.fit_lead([2, 3, 2, 4], method="auto")
     assert list(theory["policy"])[:2] == ["today", "best"]
@@ -274,7 +258,7 @@ def test_frames_and_files_give_the_same(
 ) -> None:
     """Frames give decisions, rejects and totals of files. A number is a seed: another run, the same figures."""
     other = crn.plan(*paths, out=tmp_path / "plan", program=program, **SETTINGS)
-    pd.testing.assert_frame_equal(plan.decisions, other.decisions)
+    pd.testing.assert_frame_equal(whole_frame(plan), whole_frame(other))
     pd.testing.assert_frame_equal(
         plan.rejects.drop(columns="file"), other.rejects.drop(columns="file")
     )
@@ -289,10 +273,8 @@ def test_frames_and_files_give_the_same(
     assert (written.saving - plan.decisions.saving).abs().max() <= 0.005 + 1e-9
     assert other.report() == tmp_path / "plan/report.html"
     assert crn.open_plan(tmp_path / "plan").totals == other.totals
-    one, other = (
-        crn.plan(*paths, seed=7, program=program, **SETTINGS).decisions,
-        plan.decisions,
-    )
+    seeded = crn.plan(*paths, seed=7, program=program, **SETTINGS)
+    one, other = whole_frame(seeded), whole_frame(plan)
     pd.testing.assert_series_equal(one.saving, other.saving)
     assert (one.run_saving - other.run_saving).abs().max() > 0
 
@@ -321,7 +303,7 @@ def test_decisions_are_typed(plan: crn.Plan) -> None:
     assert types["saving"] == "float64"
     assert types["item"] == "object"
     assert plan.decisions.fill_wanted.isna().any()
-    assert plan.decisions.run_low.dtype == float
+    assert plan.details.run_low.dtype == float
     assert isinstance(rows, list)
     assert [it["saving"] for it in rows] == list(
         plan.decisions.saving.astype(object).where(plan.decisions.saving.notna(), None)
@@ -357,16 +339,20 @@ def test_items_and_curve_of_a_plan(
     plan: crn.Plan, monkeypatch: pytest.MonkeyPatch
 ) -> None:
     """An item has the decisions' figures, a picture a part for both policies, a budget a policy for each item."""
-    row, frame = plan.decisions.set_index("item").loc["K-102"], plan.item("K-102").frame
+    row = whole_frame(plan).set_index("item").loc["K-102"]
+    frame = plan.item("K-102").frame
     for policy in ("today", "chosen"):
         assert frame.loc[policy, "cost"] == row[f"cost_{policy}"]
         assert frame.loc[policy, "s"] == row[f"s_{policy}"]
     assert frame.loc["chosen", "run_difference"] == -row.run_saving
     assert "<html" in plan.item("K-102").page
     drawn = Mock()
-    monkeypatch.setattr("crnplan.show.pictures.draw_policy", drawn)
-    assert len(plan.item("K-102").plot().axes) == drawn.call_count == 2
-    assert {call.args[3] for call in drawn.call_args_list} == {7}
+    monkeypatch.setattr("crnplan.show.pictures.trajectories_picture", drawn)
+    assert plan.item("K-102").plot() is drawn.return_value
+    policies, runs, initial = drawn.call_args.args
+    assert (len(policies), len(runs), initial) == (2, 2, 7)
+    for policy in policies:
+        assert [policy.s, policy.S] == [*frame.loc[policy.name, ["s", "S"]]]
     curve = plan.curve(fill=0.97)
     assert curve.frame.set_index("point").loc["budget", "fill"] >= 0.97
     assert set(curve.policies.item) <= set(plan.decisions.item)

@@ -17,7 +17,6 @@ MASTERS = "item,setup,holding,backlog,lead (weeks),s,S,price,class\n"
 MASTER = "{},12,0.06,0.9,2,6,20,5,{}\n"
 TEACHER = "{},12,0.0001,500,2,6,20,5,{}\n"  # with costs too far apart for a plan
 SMALL = "[catalogue]\nperiods = 8\nreplications = 2\nleast = 1\n"
-MOST_ORDERS = 65_536
 Write = Callable[[str, Sequence[Sequence[object]]], str]
 
 
@@ -136,26 +135,6 @@ def test_how_many_items_are_learned_from(
     ), told
 
 
-def test_most_orders(write: Write, crnplan: Command) -> None:
-    """So many orders are taken; with one more, the line of the first that is too many is named."""
-    day = datetime.date(2020, 1, 6)
-    rows = [
-        [
-            day + datetime.timedelta(it % 999),
-            day + datetime.timedelta(it % 999 + 7 * (1 + it % 3)),
-        ]
-        for it in range(MOST_ORDERS + 1)
-    ]
-    history = write("history.csv", [["demand"], *([it % 4] for it in range(30))])
-    for count, status in ((MOST_ORDERS, 0), (MOST_ORDERS + 1, 2)):
-        orders = write("orders.csv", [["ordered", "received"], *rows[:count]])
-        line = f"history {history} --demand demand --fit empirical --orders {orders} --every week"
-        told = crnplan(*line.split())
-        assert told.status == status, told.errors
-    assert f"orders.csv:{MOST_ORDERS + 2}:" in told.errors
-    assert "65,537 orders are more than 65,536" in told.errors
-
-
 def test_odd_rows(write: Write, crnplan: Command, program: Path) -> None:
     """3,000 is 750 times 4. A row with too few cells lacks its last ones, as its quantity, and a text too many is
     rejected."""
@@ -202,42 +181,44 @@ def test_blank_rows_are_counted(
     assert ("2 blank rows" in line, "blank" in line) == (blank == 2, blank == 2)
 
 
-@pytest.mark.parametrize("count", range(1, 13))
-def test_lines_of_equal_rows(write: Write, crnplan: Command, count: int) -> None:
-    """A note on rows that stand twice names all their lines, or says that there are more."""
-    rows = [["2025-01-06", 3]] * (count + 1) + [
-        [f"2025-02-{day:02}", day] for day in range(1, 20)
-    ]
-    history = write("history.csv", [["date", "demand"], *rows])
-    line = f"history {history} --demand demand --date date --every day --fit empirical"
-    told = crnplan(*line.split())
-    (note,) = (
-        it for it in told.errors.splitlines() if "the same as that of line" in it
+DAILY = "item,setup,holding,backlog,lead (days),s,S\nA,12,1,9,2,6,20\n"
+
+
+def daily_rejects(folder: Path, rows: Sequence[str], **words: str) -> list[str]:
+    """Returns why rows of demand of an item A, as DATE,QUANTITY, are left out or looked at, with advice."""
+    lines = ["date,quantity,item", *(f"{row},A" for row in rows), ""]
+    (folder / "demand.csv").write_text("\n".join(lines), "utf-8")
+    (folder / "items.csv").write_text(DAILY, "utf-8")
+    units = {"items": {"holding": "day", "backlog": "day"}}
+    read = crn.read_catalogue(
+        *(folder / "demand.csv", folder / "items.csv"),
+        **{"every": "day", "units": units, "least": 1, "far": "keep", **words},
     )
-    lines = {int(it) for it in re.findall(r"\d+", note.partition("history.csv")[2])}
-    assert ({*range(3, count + 3)} <= lines) == (".." not in note)
+    return [*(read.rejects.reason + "; " + read.rejects.advice.fillna(""))]
+
+
+@pytest.mark.parametrize("count", range(1, 13))
+def test_lines_of_equal_rows(tmp_path: Path, count: int) -> None:
+    """A note on rows that stand twice names all their lines, or says that there are more."""
+    rows = ["2025-01-06,3"] * (count + 1)
+    rows += [f"2025-02-{day:02},{day}" for day in range(1, 20)]
+    (note,) = daily_rejects(tmp_path, rows)
+    assert "the same as" in note
+    lines = {int(it) for it in re.findall(r"\d+", note)}
+    named = {*range(3, count + 3)} if count > 1 else {2}
+    assert (named <= lines) == (".." not in note)
 
 
 @pytest.mark.parametrize("text", ["1.000", "2.500", "9.000", "1.234", "7.001"])
-def test_advice_on_two_readings_helps(
-    write: Write, crnplan: Command, text: str
-) -> None:
+def test_advice_on_two_readings_helps(tmp_path: Path, text: str) -> None:
     """Each decimal sign that a message advises leads to the number that it then is, or to the reason why it is none."""
-    history = write("history.csv", [["demand"], [3], [text], [0], [2]])
-    words = f"history {history} --demand demand --fit empirical".split()
-    told = crnplan(*words)
-    signs = re.findall(r"--decimal ([.,])", told.errors)
-    assert told.status == 2
-    assert "," in signs
+    amounts = ["3", text, "0", "2"] * 4
+    rows = [f"2025-01-{6 + at:02},{amount}" for at, amount in enumerate(amounts)]
+    first, *_ = daily_rejects(tmp_path, rows)
+    signs = re.findall(r"decimal=([.,])", first)
+    assert signs == [".", ","]
     for sign in signs:
         number = float(text) if sign == "." else int(text.replace(".", ""))
-        again = crnplan(*words, "--decimal", sign)
-        if number % 1:
-            assert again.status == 2
-            assert "is not a whole number" in again.errors
-        else:
-            found = re.search(r"values = \[(.*)\]", again.output)
-            assert found
-            assert found[1].split(", ") == sorted(
-                {"0", "2", "3", f"{number:g}"}, key=int
-            )
+        found = daily_rejects(tmp_path, rows, decimal=sign)
+        assert bool(found) == bool(number % 1)
+        assert all("is not a whole number" in reason for reason in found)

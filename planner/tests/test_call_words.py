@@ -55,16 +55,11 @@ def calls(
     laws = {"demand": [1], "lead": [1], "returns": [0, 1], "key": "x"}
     changes = {"periods": 5, "costs": {"setup": 3}, "policies": [(1, 2)], **laws}
     run = {"scenario": scenario, "program": program}
-    two = scenario.changed(policies={"one": (20, 40), "two": (10, 30)})
-    orders = pd.DataFrame({"ordered": WEEKS[:3], "received": WEEKS[2:5]})
-    doubt = {"scenario": scenario, "history": DEMAND, "times": 10}
-    grid = {"scenario": scenario, "s": [10], "S": [30], "jobs": 1, "program": program}
     return {
         "plan": (crn.plan, {**tables, "program": program, **FAST}),
         "read_catalogue": (crn.read_catalogue, {"demand": SALES, "items": MASTERS}),
         "backtest": (crn.backtest, {**tables, **fast}),
         "open_plan": (crn.open_plan, {"folder": plan.path}),
-        "plan_item": (crn.plan_item, {"history": "no.csv", "settings": "no.toml"}),
         "exchange_curve": (crn.exchange_curve, {"folder": plan.path, "jobs": 1}),
         "curve": (plan.curve, {"jobs": 1}),
         "item": (plan.item, {"name": 1}),
@@ -72,22 +67,10 @@ def calls(
         "of": (crn.Scenario.of, {"demand": [1, 2], "lead": [1], **costs}),
         "changed": (scenario.changed, changes),
         "fit_demand": (crn.fit_demand, {"demand": DEMAND}),
-        "sweep": (crn.sweep, grid),
-        "doubt": (crn.doubt, {**doubt, "program": program}),
-        "sensitivity": (crn.sensitivity, run),
-        "check_keys": (
-            crn.check_keys,
-            {**run, "scenario": two, "best": "two", "replications": 2, "count": 1},
-        ),
         "trajectories": (crn.trajectories, {**run, "periods": 2}),
         "run": (scenario.run, {"program": program}),
         "long_run": (scenario.long_run, {"program": program, "keys": 2}),
         "report": (crn.report, {"folder": plan.path, "program": program, "jobs": 1}),
-        "read_history": (
-            crn.read_history,
-            {"table": SALES, "demand": "quantity", "date": "date", "every": "week"},
-        ),
-        "read_lead_times": (crn.read_lead_times, {"table": orders, "every": "week"}),
         "read_config": (crn.read_config, {"path": plan.path / "found.toml"}),
     }
 
@@ -122,7 +105,7 @@ SAME = [
     Same("orders_today", "stock", {1: 3}, None),
     Same("orders_today", "placed", {1: 0}, pd.DataFrame({"item": [1], "quantity": 0})),
     Same("orders_today", "date", pd.Timestamp("2026-03-02 13:00"), "2026-03-02"),
-    Same("sweep", "s", np.array([10]), [10]),
+    Same("trajectories", "periods", np.int64(2), 2),
     Same("fit_demand", "box", np.int64(2), 2),
 ]
 
@@ -148,28 +131,34 @@ REFUSED: list[tuple[str, dict[str, Any], str]] = [
     ("plan", {"masters": pd.Series([1])}, "masters: a Series is no table"),
     ("plan", {"jobs": -1}, "jobs=-1 is not from 1 to 1,024"),
     ("plan", {"periods": 2.5}, "periods: 2.5 is not a whole number"),
-    ("plan", {"net": 1}, "net: 1 is neither True nor False"),
+    ("plan", {"net": 1}, "net: 1 is neither true nor false"),
     ("plan", {"every": 7}, "every: 7 is not one of day, week, month"),
     ("plan", {"today": 20260201}, "today: 20260201 is no date"),
     ("plan", {"currency": float("nan")}, "currency: nan is not known"),
     ("plan", {"out": ""}, "out: '' is no path"),
     ("plan", {"out": "a\0b"}, "out: 'a.x00b' is no path"),
-    ("plan", {"columns": ["item"]}, "columns: .'item'. is no dict; write it by name"),
-    ("plan", {"factors": {"KAR": 1.5}}, "factors: 1.5 is not a whole number"),
-    ("plan", {"statuses": {"Z3": 3}}, "statuses: 3 is not one of active"),
-    ("plan", {"columns": {"demand": {"item": []}}}, "columns: .. is no name"),
+    (
+        "plan",
+        {"columns": ["item"]},
+        "columns: 'item' is no table; write values by name",
+    ),
+    ("plan", {"factors": {"KAR": 1.5}}, "factors: KAR: 1.5 is not a whole number"),
+    ("plan", {"statuses": {"Z3": 3}}, "statuses: Z3: 3 is not one of active"),
+    (
+        "plan",
+        {"columns": {"demand": {"item": []}}},
+        "columns: demand.item: .. is no name",
+    ),
     ("plan", {"laws": {1: 5}}, "laws: no table: If using all scalar"),
     ("curve", {"fill": 97}, "fill: 97 may be 97% or 97 as a share"),
-    ("orders_today", {"supplier_min": {"B": "x"}}, "supplier_min: 'x' is no cost"),
-    ("doubt", {"scenario": "x"}, "scenario: 'x' is no Scenario; give a Scenario"),
-    ("sweep", {"s": [1, 2.5]}, "s: entry 2: 2.5 is not a whole number"),
+    ("orders_today", {"supplier_min": {"B": "x"}}, "supplier_min: B: 'x' is no cost"),
+    ("trajectories", {"scenario": "x"}, "scenario: 'x' is no Scenario; give a"),
     ("of", {"key": 5}, "key: 5 is no key; give a text"),
     ("changed", {"costs": 5}, "costs: 5 is no dict"),
     ("changed", {"policies": 5}, "policies: 5 is no list"),
-    ("check_keys", {"keys": [5]}, "keys: 5 is no text"),
     ("long_run", {"keys": 2.5}, "keys: 2.5 is not a whole number"),
     ("report", {"orders": 5}, "orders: 5 is no OrdersToday"),
-    ("read_history", {"table": [1, 2]}, "table: list is no table with headings"),
+    ("read_catalogue", {"demand": [1, 2]}, "demand: list is no table with headings"),
 ]
 
 

@@ -11,11 +11,12 @@ from pathlib import Path
 
 import pytest
 
+from crnplan.errors import Refused
 from crnplan.plan.catalogue import ANSWERS
 from crnplan.read.catalogue_reading import READ
+from crnplan.store.files import own_folder
 from planner.tests.conftest import Command, write_inputs
 
-SETTINGS = Path(__file__).with_name("item") / "settings.toml"
 PLANT = "not of crnplan\n"
 MARKER = "plan/crnplan-folder.txt"
 # Files that earlier commands of crnplan wrote, or looked for.
@@ -23,21 +24,13 @@ NAMES = """parts/mine.csv lock catalogue.sqlite catalogue.sqlite.part answers.sq
     00000.toml key_1.csv kept/answers.sqlite unfinished-0123456789abcdef/mine""".split()
 # The commands that keep a folder, with their words.
 CATALOGUE = "catalogue demand.csv items.csv --jobs 1 --out plan".split()
-ITEM = "item demand.csv settings.toml --out plan".split()
-SWEEP = "sweep base.toml --s 18 22 1 --S 40 41 1 --out plan".split()
-CHECK = "check base.toml A --replications 2 --out plan".split()
 REPORT = ["report", "plan"]
-KEEPING = pytest.mark.parametrize(
-    "words", [CATALOGUE, ITEM, SWEEP, CHECK], ids=lambda words: words[0]
-)
+KEEPING = pytest.mark.parametrize("words", [CATALOGUE], ids=lambda words: words[0])
 
 
 def write_all_inputs(folder: Path, top: Path) -> Path:
     """Writes the inputs of all commands into a folder."""
     write_inputs(folder)
-    text = SETTINGS.read_text("utf-8")
-    own = text.replace('demand = "demand"', 'demand = "quantity"\ndate = "date"')
-    (folder / "settings.toml").write_text(own, "utf-8")
     shutil.copy(top / "examples/two_policies.toml", folder / "base.toml")
     return folder
 
@@ -139,7 +132,7 @@ def test_what_is_put_into_a_folder_of_ours(
     told = crnplan(*words)
     assert told.status == 0, told.errors
     assert {(room / name).read_text("utf-8") for name in others} == {PLANT}
-    assert replaced or words is SWEEP
+    assert replaced
     assert not any(path.is_symlink() for path in replaced)
 
 
@@ -164,13 +157,13 @@ def test_symlinks_to_what_is_written_in_place(
     assert is_folder or target.read_text("utf-8") == PLANT
 
 
-def test_a_folder_of_another_kind(plan: Path, crnplan: Command) -> None:
+def test_a_folder_of_another_kind(plan: Path) -> None:
     """Refuses the folder of a catalogue for anything else, and leaves it as it is."""
     before = contents(plan)
-    for words in (ITEM, SWEEP, CHECK):
-        kind = f"not that of a folder of crnplan {words[0]}"
-        assert crnplan(*words).refuses(kind)
-        assert contents(plan) == before
+    with pytest.raises(Refused, match="not that of a folder of crnplan desk"):
+        with own_folder(plan, "desk"):
+            pass
+    assert contents(plan) == before
 
 
 def test_a_marker_that_is_no_file(room: Path, crnplan: Command) -> None:

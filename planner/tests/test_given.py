@@ -3,6 +3,7 @@ from __future__ import annotations
 
 import inspect
 import pickle
+from collections.abc import Callable
 from pathlib import Path
 from typing import Any
 
@@ -11,7 +12,7 @@ import pytest
 
 import crnplan as crn
 from crnplan.errors import Refused
-from crnplan.given import COMMON
+from crnplan.given import COMMON, words_of
 from planner.tests.test_call_words import FAST, MASTERS, SALES
 
 OWN = {name: value for name, value in FAST.items() if name != "jobs"}
@@ -24,9 +25,7 @@ def test_values_are_as_words(program: Path, is_all: bool) -> None:
     words: dict[str, Any] = {"program": program, "jobs": 1}
     alone = crn.plan(SALES, MASTERS, **words, **OWN, **LATER)
     settings = crn.Settings(**OWN if is_all else {"periods": 8, "replications": 2})
-    others = (
-        {} if is_all else {name: OWN[name] for name in OWN.keys() - settings.keys()}
-    )
+    others = {} if is_all else {name: OWN[name] for name in OWN.keys() - settings.given}
     reading = crn.Reading(**LATER)
     plan = crn.plan(
         SALES, MASTERS, reading=reading, settings=settings, **words, **others
@@ -69,10 +68,10 @@ def test_what_is_said_twice() -> None:
 
 def test_values_are_judged_and_compared() -> None:
     """A value refuses what the call would refuse, by its name; it is shown as it is made, equal by content, and pickled."""
-    with pytest.raises(Refused, match="least=0 is not from 1"):
+    with pytest.raises(Refused, match="least: 0 is not from 1"):
         crn.Reading(least=0)
     with pytest.raises(TypeError, match="unexpected keyword argument 'levle'"):
-        crn.Settings(levle=0.9)  # type: ignore[call-arg]
+        crn.Settings(levle=0.9)
     reading = crn.Reading(least=5, every="month")
     assert repr(reading) == "Reading(every='month', least=5)"
     assert (
@@ -89,8 +88,92 @@ def test_shown_words() -> None:
     shown = inspect.signature(crn.plan).parameters
     assert {*COMMON} <= shown.keys() and "replications" not in shown
     assert inspect.signature(crn.Settings).parameters["level"].default == 0.95
-    assert "replications" in (crn.Settings.__init__.__doc__ or "")
+    assert "replications" in (crn.Settings.__doc__ or "")
     assert len(shown) < 30
+
+
+# A value of each word of reading.
+READING: dict[str, Any] = {
+    "columns": {"demand": {"item": "item"}},
+    "units": {"items": {"lead": "day"}},
+    "where": {"plant": "1000"},
+    "delimiter": ";",
+    "encoding": "cp1252",
+    "decimal": ",",
+    "date_formats": ["%d.%m.%Y"],
+    "every": "week",
+    "names": {"demand": {"quantity": ["sold"]}},
+    "start": "2025-01-06",
+    "end": "2026-02-23",
+    "today": "2026-02-23",
+    "net": True,
+    "negate": True,
+    "empty": "none",
+    "twice": "keep",
+    "far": "keep",
+    "least": 13,
+    "lead_from": "both",
+    "factors": {"KAR": 12},
+    "statuses": {"Z3": "stopped"},
+    "stopped": "as-stated",
+    "setup": 45,
+    "holding_rate": 0.2,
+    "fill": 0.9,
+    "no_shortage": "90%",
+    "lead": "3 weeks",
+    "review": 2,
+    "service": {"A": 0.98},
+    "currency": "EUR",
+    "abc": (80, 95),
+    "supplier_min": {"Bosch": 500},
+    "written": {"demand": {"delimiter": ";"}},
+}
+
+
+@pytest.fixture(scope="module")
+def read() -> crn.Catalogue:
+    return crn.read_catalogue(SALES, MASTERS, jobs=1)
+
+
+def refusal(call: Callable[..., Any], read: crn.Catalogue, **words: Any) -> str:
+    with pytest.raises(Refused) as refused:
+        call(read, **words)
+    return str(refused.value)
+
+
+@pytest.mark.parametrize("word", words_of(crn.Reading))
+def test_words_beside_a_catalogue_that_was_read(word: str, read: crn.Catalogue) -> None:
+    """A word of reading would change nothing of it, so it is refused by its name, also in a value."""
+    said = (
+        f"{word}: not for a catalogue that was read before; give it where that is read: "
+        f"read_catalogue(.., {word}=..)"
+    )
+    own = {word: READING[word]}
+    assert refusal(crn.plan, read, **own) == said
+    assert refusal(crn.plan, read, reading=crn.Reading(**own)) == said
+    assert refusal(crn.backtest, read, reading=crn.Reading(**own)) == said
+
+
+def test_tables_beside_a_catalogue_that_was_read(
+    read: crn.Catalogue, program: Path
+) -> None:
+    """So are its other tables; overrides are read as it was."""
+    tables = {"masters": MASTERS, "orders": SALES, "out_of_stock": SALES}
+    said = refusal(crn.plan, read, **tables, laws=SALES)
+    assert said.startswith("laws, masters, orders, out_of_stock: not for a catalogue")
+    assert said.endswith(
+        "read_catalogue(.., items=.., laws=.., orders=.., out_of_stock=..)"
+    )
+    said = refusal(crn.backtest, read, **tables, period="week")
+    assert said.startswith("masters, orders, out_of_stock, period: not for")
+    assert said.endswith(
+        "read_catalogue(.., every=.., items=.., orders=.., out_of_stock=..)"
+    )
+    columns = {"overrides": {"item": "part no"}}
+    named = crn.read_catalogue(SALES, MASTERS, columns=columns, jobs=1)
+    overrides = pd.DataFrame({"part no": [1], "s": 7, "S": 31})
+    plan = crn.plan(named, overrides=overrides, program=program, **FAST)
+    assert plan.details.loc[0, ["s_override", "S_override"]].to_list() == [7, 31]
 
 
 WRITTEN = """
@@ -114,19 +197,20 @@ decimal = { quantity = "," }
 
 
 def test_words_of_a_file(tmp_path: Path) -> None:
-    """crnplan.toml says in calls what it says in commands. Words of today's orders alone are in neither value."""
+    """crnplan.toml says in calls what it says in commands."""
     path = tmp_path / "crnplan.toml"
     path.write_text(WRITTEN, "utf-8")
     reading, settings = crn.read_config(path)
-    assert reading == {
-        "every": "week",
-        "start": pd.Timestamp("2025-01-06").date(),
-        "holding_rate": "20%",
-        "columns": {"demand": {"quantity": "sold"}},
-        "units": {"items": {"lead": "day"}},
-        "written": {"demand": {"delimiter": ";", "decimal": {"quantity": ","}}},
-    }
-    assert settings == {"seed": "own"}
+    assert reading == crn.Reading(
+        every="week",
+        start=pd.Timestamp("2025-01-06").date(),
+        holding_rate="20%",
+        columns={"demand": {"quantity": "sold"}},
+        units={"items": {"lead": "day"}},
+        written={"demand": {"delimiter": ";", "decimal": {"quantity": ","}}},
+        supplier_min={"ACME": 500},
+    )
+    assert settings == crn.Settings(seed="own")
 
 
 WEEKS = [day.date() for day in pd.date_range("2025-01-06", periods=20, freq="W-MON")]
@@ -142,9 +226,9 @@ def test_how_a_file_is_written(tmp_path: Path) -> None:
         read = crn.read_catalogue(path, MASTERS, written=written, jobs=1)
         counts = read.counts["files"]["demand"]
         assert (counts["used"], counts["rejected"]) == (used, 20 - used)
-    with pytest.raises(crn.Refused, match="written: 'demand' is no dict"):
+    with pytest.raises(crn.Refused, match="written: 'demand' is no table"):
         crn.Reading(written="demand")  # type: ignore[arg-type]
-    with pytest.raises(crn.Refused, match="decimal=' is not one of"):
+    with pytest.raises(crn.Refused, match="demand.decimal.quantity: .* is not one of"):
         crn.read_catalogue(
             path, MASTERS, written={"demand": {"decimal": {"quantity": "'"}}}
         )
@@ -157,3 +241,10 @@ def test_a_file_that_is_wrong(tmp_path: Path) -> None:
         crn.read_config(path)
     with pytest.raises(crn.Refused, match="nowhere.toml"):
         crn.read_config(tmp_path / "nowhere.toml")
+
+
+def test_a_tab_is_a_sign() -> None:
+    """A sign may be blank, and no value at all says nothing: that is refused."""
+    assert crn.Reading(delimiter="\t").delimiter == "\t"
+    with pytest.raises(crn.Refused, match="delimiter: '' is not known; leave it out"):
+        crn.Reading(delimiter="")

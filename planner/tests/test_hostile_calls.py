@@ -12,7 +12,6 @@ from typing import Any
 import numpy as np
 import pandas as pd
 import pytest
-from matplotlib import pyplot
 
 import crnplan as crn
 from crnplan.arguments import KINDS, word_of
@@ -90,7 +89,6 @@ def public() -> Iterator[str]:
 @pytest.fixture(scope="module")
 def things(program: Path, tmp_path_factory: pytest.TempPathFactory) -> dict[str, Any]:
     """Returns an instance of each public class with methods, and by name sound values of arguments."""
-    pyplot.switch_backend("Agg")
     room = tmp_path_factory.mktemp("hostile")
     plan = crn.plan(SALES, MASTERS, out=room / "plan", program=program, **FAST)
     costs: Any = {**COSTS, "today": (20, 40)}
@@ -111,7 +109,6 @@ def things(program: Path, tmp_path_factory: pytest.TempPathFactory) -> dict[str,
         "Report": scenario.run(program=program),
         "LongRunReport": scenario.long_run(keys=2, program=program),
         "Backtests": crn.backtest(SALES, MASTERS, fit="empirical", every=4, jobs=1),
-        "History": crn.read_history(SALES, demand="quantity"),
     }
     sound = {
         **COSTS,
@@ -153,16 +150,10 @@ OWN: dict[str, dict[str, Any]] = {
     "Plan.to_excel": {"path": "plan.xlsx"},
     "OrdersToday.to_excel": {"path": "orders.xlsx"},
     "read_catalogue": {"demand": SALES},
-    "read_history": {"table": SALES, "demand": "quantity"},
-    "plan_item": {"history": "no.csv", "settings": "no.toml"},
-    "read_lead_times": {"every": "week"},
-    "sweep": {"s": [10], "S": [30]},
     "learn": {"least": 30, "borrow": "class", "classes": ["A"] * 30},
     "plan": {"masters": MASTERS, **FAST},
     "backtest": {"masters": MASTERS, "every": 4, "fit": "empirical", "jobs": 1},
-    "doubt": {"times": 10},
     "Scenario.long_run": {"keys": 2},
-    "check_keys": {"replications": 2, "count": 1},
 }
 
 
@@ -222,7 +213,6 @@ def test_hostile_arguments(
         for kind in FEW if argument in alike else HOSTILE:
             if (argument, kind) not in UNTRIED:
                 wrong.append(wrong_of(call, given, argument, kind))
-        pyplot.close("all")
     assert [*filter(None, wrong)] == []
 
 
@@ -234,5 +224,6 @@ def test_each_word_is_an_argument(things: Mapping[str, Any]) -> None:
     words = [word for table in OF_CALLS for word in within(table)]
     assert {word.name for word in words} <= taken
     assert {word.kind for word in words} <= KINDS.keys()
-    assert word_of("orders", ("curve", "call")).kind == "number"
-    assert word_of("orders", ("call", "curve")).kind == "table"
+    own, of_calls = word_of("orders", ("curve", "call")), word_of("orders", ("call",))
+    assert own and of_calls and (own.kind, of_calls.kind) == ("number", "table")
+    assert word_of("level", ("curve",)) is None

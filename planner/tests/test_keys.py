@@ -51,6 +51,7 @@ def orders(plan: crn.Plan) -> crn.OrdersToday:
 
 FRAMES: dict[str, Callable[[crn.Plan], pd.DataFrame]] = {
     "decisions": lambda plan: plan.decisions,
+    "details": lambda plan: plan.details,
     "changes": lambda plan: plan.changes,
     "levels": lambda plan: plan.levels,
     "orders": lambda plan: orders(plan).frame,

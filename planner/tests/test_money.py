@@ -2,6 +2,7 @@
 from __future__ import annotations
 
 import math
+import time
 from decimal import Decimal
 from fractions import Fraction
 from pathlib import Path
@@ -20,8 +21,9 @@ CASES = cases_beside(__file__)
 # Numbers whose exact value would take minutes or all memory to compute, or that no float can be. The last ones are of so
 # many digits that Python doesn't read them.
 ENDLESS = [*CASES["endless"], "1e" + "9" * 5_000, "9" * 5_000]
+MOST_SECONDS = 2  # of processor time, for a catalogue of two items
 # The same in TOML, where they are numbers without quotes.
-IN_TOML, TOO_LARGE = CASES["in_toml"], CASES["too_large"]
+IN_TOML = CASES["in_toml"]
 
 
 @pytest.mark.parametrize("text", ENDLESS)
@@ -94,25 +96,12 @@ def test_settings_of_a_catalogue(
     assert told.refuses("crnplan.toml:2")
 
 
-@pytest.mark.parametrize("text", [*IN_TOML, *TOO_LARGE])
-@pytest.mark.parametrize("key", ["setup", "holding", "fill"])
-def test_settings_of_an_item(
-    files: Path, crnplan: Command, key: str, text: str
-) -> None:
-    (files / "settings.toml").write_text(
-        CASES["item"].format(**{"setup": 9, "holding": 1, "fill": 0.9} | {key: text}),
-        "utf-8",
-    )
-    told = crnplan("item", "demand.csv", "settings.toml", "--out", "plan")
-    assert told.refuses(f"{key}: {text}")
-
-
 @pytest.mark.parametrize(
     "role", ["setup", "holding", "price", "lead (weeks)", "quantity"]
 )
-@pytest.mark.parametrize("text", ["1e-9999999", "1e9999999"])
+@pytest.mark.parametrize("text", ["1E-9999999", "1E-99999999999", "1E+9999999"])
 def test_cells(files: Path, role: str, text: str) -> None:
-    """A cell with such a text is left out with its reason. A frame's own number is read in no time."""
+    """A cell with such a text, or a frame's own number that shows it, is left out with its reason in no time."""
     for value in (text, Decimal(text)):
         sales, masters = pd.read_csv("demand.csv", dtype=object), pd.read_csv(
             "items.csv", dtype=object
@@ -120,7 +109,7 @@ def test_cells(files: Path, role: str, text: str) -> None:
         for table in (sales, masters):
             if role in table:
                 table.loc[0, role] = value
+        begun = time.process_time()
         with crn.read_catalogue(sales, masters).opened() as base:
-            assert isinstance(value, Decimal) or any(
-                out.text == text for out in base.rejects()
-            )
+            assert any(out.text in (text, "inf") for out in base.rejects())
+        assert time.process_time() - begun < MOST_SECONDS

@@ -29,20 +29,15 @@ TOP = Path(__file__).resolve().parents[2]
 NULL = os.makedev(1, 3)
 # The commands that write a file which the user names, with OUT in its place.
 EXAMPLE = f"{TOP}/examples/two_policies"
-REPORT = f"decide {EXAMPLE}.csv --scenario {EXAMPLE}.toml"
 WRITING = {
-    "history": "history demand.csv --demand quantity --leave-out --rejects OUT.csv",
-    "history with faults": "history demand.csv --demand quantity --rejects OUT.csv",
     "catalogue": "catalogue demand.csv items.csv --check --rejects OUT.csv",
-    "decide": f"{REPORT} --plot OUT.png",
-    "map": f"{REPORT} --map OUT.svg",
-    "doubt": f"doubt {EXAMPLE}.toml demand.csv --demand quantity --leave-out --times 10 --plot OUT.svg",
+    "reports": f"run {EXAMPLE}.csv --replications 1 --out OUT.csv",
 }
 # Those that need the program, the first two also a plan.
 BY_PROGRAM = {
     "report": "report plan --xlsx OUT.xlsx",
-    "curve": "curve plan --confirm 0 --plot OUT.png",
-    "trajectory": f"trajectory {EXAMPLE}.toml A --periods 4 --out OUT.svg",
+    "curve": "curve plan --confirm 0 --plot OUT.svg",
+    "run": f"run {EXAMPLE}.toml --out OUT.csv",
 }
 
 
@@ -297,7 +292,7 @@ def test_a_standard_stream_by_a_name(inputs: Path, number: int, stream: str) -> 
     by a symlink as the system's own, which no test may touch."""
     whole, both, link = inputs / "whole.csv", inputs / "both.txt", inputs / "stream"
     link.symlink_to(f"/proc/self/fd/{number}")
-    words = f"-m crnplan {WRITING['history']}"
+    words = f"-m crnplan {WRITING['catalogue']}"
     plain = run(words_to(whole, words))
     printed = plain.stdout if stream == "stdout" else plain.stderr
     with both.open("wb") as file:

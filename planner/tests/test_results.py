@@ -226,10 +226,11 @@ def test_notebooks_show_what_matters_of_a_plan(results: Mapping[str, Result]) ->
     heading, *rows = cells_of(page)
     assert f"<p>{repr(plan)[5:-1]}</p>" in page
     assert heading == (
-        "item verdict s_today S_today s_chosen S_chosen saving fill_chosen".split()
+        "item s_chosen S_chosen saving verdict s_today S_today fill_chosen".split()
     )
     first = plan.frame.iloc[0]
-    assert rows[0][-2:] == [f"{first.saving:,.2f}", f"{first.fill_chosen:.1%}"]
+    assert rows[0][3] == f"{first.saving:,.2f}"
+    assert rows[0][-1] == f"{first.fill_chosen:.1%}"
 
 
 COLUMNS = (
@@ -286,7 +287,8 @@ def test_trajectories(results: Mapping[str, Result], program: Path) -> None:
     high = frame[frame["policy"] == "high"]
     gone = (high["ordered"] - high["net_demand"]).cumsum()
     assert [*high["position"]] == [*(scenario.initial + gone)]
-    assert len(found.plot().axes) == 2
+    for name in ("low", "high"):
+        assert f">{name} (" in found.plot().svg
     assert pickle.loads(pickle.dumps(found)) == found
 
 
@@ -296,7 +298,7 @@ def test_the_scenario_of_an_item(path: Path, program: Path) -> None:
     scenario = item.scenario
     _, masters = tables()
     assert (scenario.base.s, scenario.base.S) == (masters["s"][0], masters["S"][0])
-    cost = scenario.theory().frame["cost"] / float(scenario.scale)
+    cost = scenario.theory().frame["cost"]
     assert {"today", "chosen"} <= {*cost.index}
     assert cost["chosen"] == pytest.approx(item.frame.loc["chosen", "theory_cost"])
 
@@ -311,24 +313,7 @@ def test_the_text_of_checks() -> None:
     )
 
 
-def test_frames_of_what_was_read(path: Path, tmp_path: Path) -> None:
-    """A history, lead times and totals have a frame too."""
-    lines = ["date,quantity,returned", "2026-01-05,3,1", "2026-01-19,4,0"]
-    (tmp_path / "demand.csv").write_text("\n".join([*lines, ""]), "utf-8")
-    words = {"demand": "quantity", "date": "date", "every": "week"}
-    file = tmp_path / "demand.csv"
-    history = crn.read_history(file, **words, returns="returned")  # type: ignore[arg-type]
-    assert history.frame.to_dict("list") == {"demand": [3, 0, 4], "returned": [1, 0, 0]}
-    assert [str(week.start_time.date()) for week in history.frame.index] == [
-        "2026-01-05",
-        "2026-01-12",
-        "2026-01-19",
-    ]
-    bare = crn.read_history(file, **words)  # type: ignore[arg-type]
-    assert [*bare.frame.columns] == ["demand"]
-    (tmp_path / "leads.csv").write_text("weeks\n2\n3\n", "utf-8")
-    leads = crn.read_lead_times(tmp_path / "leads.csv", lead="weeks")
-    assert leads.frame.to_dict("list") == {"lead": [2, 3]}
+def test_a_frame_of_totals(path: Path) -> None:
     plan = crn.open_plan(path)
     totals = plan.totals.frame.set_index("figure")["value"]
     assert totals["saving"] == pytest.approx(plan.decisions["saving"].sum())

@@ -22,7 +22,7 @@ from crnplan.errors import CrnplanError, Failed, Fault, RefusedFaults
 from crnplan.scenario import Scenario
 from crnplan.store.files import faults_of, own_folder
 from planner.tests.conftest import Command
-from planner.tests.test_folders import CATALOGUE, ITEM, SWEEP, room
+from planner.tests.test_folders import CATALOGUE, room
 
 __all__ = ["room"]
 RUN = ["run", "base.toml"]
@@ -43,9 +43,7 @@ def run(
     "words, closed, written",
     [
         (CATALOGUE, ["stdout", "stderr"], "decisions.csv"),
-        (ITEM, ["stdout"], "summary.txt"),
-        (SWEEP, ["stderr"], "sweep.sqlite"),
-        (SWEEP, ["stdout"], "sweep.sqlite"),
+        (CATALOGUE, ["stdout"], "scenario.toml"),
         (["--help"], ["stdout"], ""),
         (RUN, ["stdout"], ""),
     ],
@@ -67,7 +65,7 @@ def test_a_reader_that_has_gone(
 
 
 @pytest.mark.parametrize(
-    "words", [SWEEP, ["--help"], RUN, [*CATALOGUE, "--check"]], ids=lambda it: it[0]
+    "words", [["--help"], RUN, [*CATALOGUE, "--check"]], ids=lambda it: it[0]
 )
 def test_a_full_standard_output(words: Sequence[str]) -> None:
     """Ends with status 3 and a line if standard output is on a full disk."""
@@ -98,7 +96,7 @@ def test_faults_that_no_input_is_to_blame_for(
     crnplan: Command, monkeypatch: pytest.MonkeyPatch, fault: Exception, part: str
 ) -> None:
     """Ends with status 3 and one line, whatever is raised."""
-    monkeypatch.setattr(Scenario, "read", Mock(side_effect=fault))
+    monkeypatch.setattr(Scenario, "parse", Mock(side_effect=fault))
     status, output, errors = crnplan(*RUN)
     assert (status, output, errors.count("\n")) == (3, "", 1)
     assert errors.startswith(f"crnplan: {part}")
@@ -157,18 +155,6 @@ def test_an_error_of_another_process(fault: CrnplanError) -> None:
     assert (str(sent), vars(sent)) == (str(fault), vars(fault))
 
 
-def test_parts_on_a_terminal() -> None:
-    """Names the parts of an item's plan on a terminal, before each."""
-    terminal, end = os.openpty()
-    ran = run(ITEM, stderr=end)
-    os.close(end)
-    lines = os.read(terminal, 4_096).decode().splitlines()
-    os.close(terminal)
-    assert ran.returncode == 0
-    assert lines[0] == "plan .."
-    assert "summary.html .." in lines
-
-
 CONTROL = re.compile("[\x00-\x08\x0b-\x1f\x7f-\x9f\u2028-\u202e\u2066-\u2069]")
 EVIL = (
     "\x1b[31mred\x1b]0;title\x07",
@@ -200,9 +186,6 @@ def test_control_characters_of_others(room: Path, crnplan: Command, evil: str) -
     assert not CONTROL.search(found)
     assert tomllib.loads(found)
     for more in (
-        ["history", path, "--demand", "quantity"],
-        ["item", path, "settings.toml", "--out", "one"],
-        ["why", path],
         ["run", path],
         ["catalogue", path, evil, "--check"],
         [evil],
@@ -240,9 +223,7 @@ def test_formulas_of_others(room: Path, crnplan: Command) -> None:
     write_rows(room / "items.csv", masters)
     write_rows(room / "demand.csv", [*sales, *more])
     assert crnplan(*CATALOGUE).status == crnplan("curve", "plan").status == 0
-    words = "history demand.csv --demand quantity --rejects rejects.csv"
-    assert crnplan(*words.split()).status == 2
-    for path in [*(room / "plan").glob("*.csv"), room / "rejects.csv"]:
+    for path in (room / "plan").glob("*.csv"):
         cells = [cell for row in read_rows(path) for cell in row if cell]
         signs = [cell for cell in cells if cell[0] in "=@\t\r+-"]
         assert cells and all(map(NUMBER.fullmatch, signs)), path

@@ -12,7 +12,6 @@ import pandas as pd
 import pytest
 
 from crnplan.crnsim.periods import Past, periods_of
-from crnplan.decide.doubt import HELD
 from crnplan.demand.fitted import DOUBT
 from crnplan.demand.losses import STUDIED, losses
 from crnplan.plan.seasons import Seasons
@@ -183,9 +182,6 @@ def test_stored_figures(top: Path) -> None:
         assert bounds == pytest.approx(found, abs=0.051)
     rows = doubt.summary(stored(top, "doubt")).query("group == 'all'")
     assert [*rows["periods"]] == [*laws.PERIODS]
-    for name in ("regret", "fill"):
-        held = rows[f"{name}_held"].round()
-        assert HELD[name] == (held.min(), held.max())
     table = stored(top, "search")
     several = table.loc[table["leads"].str.contains(" "), "excess"]
     assert suggestions.MOST_EXCESS == pytest.approx(several.max(), abs=0.051)

@@ -17,12 +17,12 @@ import pandas as pd
 import pytest
 from hypothesis import given, strategies as st
 
+from crnplan.show.catalogue_tables import DECISION_COLUMNS, DETAIL_COLUMNS
 from crnplan.table import (
     MONEY,
     Cell,
     DataTable,
     aligned,
-    csv_style,
     exact,
     names_of,
     number,
@@ -157,10 +157,8 @@ def test_tables_for_spreadsheets_of_a_language(style: str) -> None:
         2,
         "",
     )
-    with csv_style(style):
-        read = pd.read_csv(
-            io.BytesIO(table.csv.encode()), sep=";", decimal=",", encoding="utf-8-sig"
-        )
+    data = "".join(table.lines_in(style)).encode()
+    read = pd.read_csv(io.BytesIO(data), sep=";", decimal=",", encoding="utf-8-sig")
     assert [*read.columns] == table.names
     assert read.name.tolist() == ["a.b;c", "ü"]
     assert read.cost[0] == 1234.57
@@ -226,3 +224,12 @@ def test_the_page_of_tables_is_that_of_the_declared_columns() -> None:
             it.meaning and (it.unit or it.kind == "text") for it in columns
         ), name
         assert len({it.name for it in columns}) == len(columns), name
+
+
+def test_decisions_are_short_and_begin_with_what_to_order() -> None:
+    """A planner reads at most 22 columns, the levels and the saving first; all others stand once, in the details."""
+    decisions = [column.name for column in DECISION_COLUMNS]
+    assert len(decisions) <= 22
+    assert decisions[:4] == ["item", "s_chosen", "S_chosen", "saving"]
+    details = {column.name for column in DETAIL_COLUMNS}
+    assert details & {*decisions} == {"item"}

@@ -82,7 +82,7 @@ CHANGES = {
     10: {"pass", "given", "print(total, sorted(given))"},
     11: {"total or given[0]", "1"},
 }
-KEYS = "planner/tests/decide/test_check.py::test_given"
+LAWS = "planner/tests/test_law.py::test_scenarios_take_what_laws_take"
 
 
 def test_mutants_of_a_file() -> None:
@@ -100,7 +100,7 @@ def test_mutants_of_a_file() -> None:
         it for it in found if "<" in it.new and it.line == 6 and "not" not in it.new
     )
     assert TEXT.encode()[compared.start : compared.end] == b"len(given) <= most"
-    lines = [("decide/keys.py", line) for line in range(40, 72)]
+    lines = [("law.py", line) for line in range(100, 132)]
     found = chosen(3, 5, lines)
     assert found == chosen(3, 5, lines) != chosen(3, 6, lines)
     assert {(it.file, it.line) for it in found} <= {*lines}
@@ -108,10 +108,10 @@ def test_mutants_of_a_file() -> None:
 
 def test_outcomes(program: Path) -> None:
     """A bug is seen by a test that meets it, a change that is none is not, and without tests nothing is."""
-    text = (SOURCE / "decide/keys.py").read_bytes()
+    text = (SOURCE / "law.py").read_bytes()
     start = text.index(b"return ")
     bug = Mutant(
-        "decide/keys.py",
+        "law.py",
         1 + text[:start].count(b"\n"),
         start,
         start + len(b"return"),
@@ -119,13 +119,13 @@ def test_outcomes(program: Path) -> None:
     )
     same = bug._replace(new="return")
     assert [
-        outcome_of(bug, [KEYS], program),
-        outcome_of(same, [KEYS], program),
+        outcome_of(bug, [LAWS], program),
+        outcome_of(same, [LAWS], program),
         outcome_of(bug, [], program),
     ] == [KILLED, SURVIVED, NO_TEST]
     assert (
         line_of_mutant(bug, KILLED)
-        == f"killed: decide/keys.py:{bug.line}: return -> assert not"
+        == f"killed: law.py:{bug.line}: return -> assert not"
     )
 
 

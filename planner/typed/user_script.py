@@ -5,19 +5,15 @@ from pathlib import Path
 from typing import assert_type
 
 import pandas as pd
-from matplotlib.axes import Axes
 
 import crnplan as crn
 from crnplan.crnsim.trajectory import Trajectories
 from crnplan.curve.exchange_curve import Drawn
-from crnplan.decide.doubt import Doubt
-from crnplan.decide.keys import Check
-from crnplan.decide.sensitivity import Sensitivity
 from crnplan.decide.verdicts import Decision
 from crnplan.plan.totals import Totals
 from crnplan.plan.what_ifs import Moves
 from crnplan.planned import Figures
-from crnplan.read import LeadTimes
+from crnplan.show.pictures import Picture
 from crnplan.theory.suggestions import ByTheory, Suggestions
 
 Frame = pd.DataFrame
@@ -43,7 +39,7 @@ def catalogue(sales: Frame, masters: Frame) -> None:
     assert_type(plan.totals["saving"], float)
     assert_type(plan.totals.frame, Frame)
     assert_type(plan.text, str)
-    assert_type(plan.plot(), Axes)
+    assert_type(plan.plot(), Picture)
     assert_type(plan.report(["A", 1]), Path)
     assert_type(crn.open_plan("plan"), crn.Plan)
     assert_type(crn.report("plan"), Path)
@@ -62,7 +58,7 @@ def orders(plan: crn.Plan, stock: Frame) -> None:
     assert_type(today.text, str)
     assert_type(plan.curve(fill=0.97), Drawn)
     assert_type(plan.curve().policies, Frame)
-    assert_type(plan.curve().plot(), Axes)
+    assert_type(plan.curve().plot(), Picture)
     assert_type(plan.curve().left_out.frame, Frame)
     assert_type(crn.exchange_curve("plan", orders=3.5), Drawn)
 
@@ -71,7 +67,6 @@ def item(plan: crn.Plan) -> None:
     """Asks for one item."""
     planned = plan.item(4711)
     assert_type(planned, crn.PlannedItem)
-    assert_type(crn.plan_item("history.csv", "item.toml"), crn.PlannedItem)
     assert_type(planned.scenario, crn.Scenario)
     assert_type(planned.compare(), Figures)
     assert_type(planned.doubt(), Figures)
@@ -86,15 +81,12 @@ def past(sales: Frame, masters: Frame) -> None:
     assert_type(tests.frame, Frame)
     assert_type(tests.sums, Frame)
     assert_type(tests.verdict, str)
-    assert_type(tests.plot(), Axes)
+    assert_type(tests.plot(), Picture)
 
 
 def laws() -> None:
     """Fits laws to histories."""
-    history = crn.read_history("demand.csv", demand="quantity")
-    assert_type(history, crn.History)
-    assert_type(history.frame, Frame)
-    assert_type(crn.read_lead_times("orders.csv", lead="days"), LeadTimes)
+    history = [0, 3, 1]
     assert_type(crn.fit_demand(history), crn.FittedLaw)
     assert_type(crn.fit_lead([1, 2]), crn.FittedLaw)
     assert_type(crn.check_history(history), crn.Checks)
@@ -104,7 +96,7 @@ def laws() -> None:
     assert_type(crn.learn([[1, 2], [0, 3]]).frame, Frame)
     assert_type(crn.Law.of({0: 1, 3: 1}), crn.Law)
     assert_type(crn.Law.of({0: 1, 3: 1}).frame, Frame)
-    assert_type(crn.Law.of({0: 1, 3: 1}).plot(), Axes)
+    assert_type(crn.Law.of({0: 1, 3: 1}).plot(), Picture)
 
 
 def decisions(law: crn.Law) -> None:
@@ -120,13 +112,9 @@ def decisions(law: crn.Law) -> None:
     assert_type(report.frame, Frame)
     assert_type(report.decide(), Decision)
     assert_type(scenario.long_run([(3, 9)], keys=8), crn.LongRunReport)
-    assert_type(crn.doubt(scenario, [1, 0, 2]), Doubt)
-    assert_type(crn.doubt(scenario, [1, 0, 2]).plot(), Axes)
-    assert_type(crn.sensitivity(scenario), Sensitivity)
-    assert_type(crn.sweep(scenario, [1, 2], [8, 9]), crn.Report)
-    assert_type(crn.check_keys(scenario, "best"), Check)
     runs = crn.trajectories(scenario, periods=5)
     assert_type(runs, Trajectories)
     assert_type(runs.frame, Frame)
+    assert_type(runs.plot(), Picture)
     assert_type(runs[0][0].stock, int)
     assert_type(crn.find_program(), Path)

@@ -60,7 +60,7 @@ def judge(ask: Ask) -> Callable[[str, int], bool | str]:
         found = read_scenario(data)[1]
         told = {
             "crnsim": of_program,
-            "crnplan why": str(found[0].rule if found else 0),
+            "crnplan": str(found[0].rule if found else 0),
             "tests/hostile/second_reader.py": str(second_reader.scenario_of(data)[0]),
         }
         wrong = [f"{who} says {it}" for who, it in told.items() if it != str(number)]

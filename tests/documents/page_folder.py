@@ -16,10 +16,6 @@ RUNNERS = {
     "sh": ["bash", "-e", "-o", "pipefail", "-c"],
     "python": [sys.executable, "-c"],
 }
-# What a sweep reports of its progress.
-PROGRESS = re.compile(
-    r"(\r?[0-9]+ of [0-9]+ scenarios \([0-9]+ kept\)(, [0-9.e+]+ a second, [0-9:]+ left)?)+\n"
-)
 
 
 def is_whole(text: str) -> bool:
@@ -103,4 +99,4 @@ class Folder:
             )
         except subprocess.TimeoutExpired:
             return None, f"it does not end in {SECONDS} seconds"
-        return ran.returncode, PROGRESS.sub("", ran.stdout.decode("utf-8", "replace"))
+        return ran.returncode, ran.stdout.decode("utf-8", "replace")

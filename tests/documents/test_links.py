@@ -24,7 +24,13 @@ CORE = [
     "tests/README.md",
     "crates/uses/README.md",
 ]
-READ = [*CORE, "docs/FORMATS.md", "docs/GUIDE.md", "examples/README.md"]
+READ = [
+    *CORE,
+    "docs/FORMATS.md",
+    "docs/GUIDE.md",
+    "examples/README.md",
+    "planner/CONTRIBUTING.md",
+]
 
 
 def links_of(page: str) -> list[str]:
@@ -86,6 +92,11 @@ def test_no_page_is_left_out() -> None:
 def test_words_of_proving() -> None:
     """PROVING is read in one sitting: it has at most 1,500 words."""
     assert words_of("docs/PROVING.md") <= 1_500
+
+
+@pytest.mark.parametrize("page", ["CHANGELOG.md", "planner/studies/README.md"])
+def test_words_of_looked_up_pages(page: str) -> None:
+    assert words_of(page) <= 2_500
 
 
 def test_readme_fits_three_screens() -> None:

@@ -2,6 +2,7 @@
 from __future__ import annotations
 
 import re
+import subprocess
 from collections import Counter
 from typing import Any
 
@@ -52,6 +53,15 @@ SENTENCES = Counter(it.what for it in EDITS)
 def test_map_has_each_crate() -> None:
     """ARCHITECTURE lists the crates of crates.txt."""
     assert sorted(ROWS) == sorted(LISTED)
+
+
+def test_kit() -> None:
+    """PROOFS names the logic that proves the crates, as `rt version` prints it behind the kit."""
+    kit, _, logic = subprocess.check_output(["rt", "version"], text=True).partition(
+        " logic "
+    )
+    assert kit.startswith("rattle-kit-")
+    assert f"with the kit's logic `{logic.strip()}`" in text_of("docs/PROOFS.md")
 
 
 def test_program_gives_out_its_names() -> None:

@@ -20,7 +20,7 @@ def printed(notebook: Any) -> list[list[tuple[str, str]]]:
                 outputs.append((output.name, output.text))
                 continue
             text = output.data.get("text/plain", "")
-            is_picture = "image/png" in output.data
+            is_picture = "image/svg+xml" in output.data
             outputs.append(("picture", "") if is_picture else ("value", text))
         cells.append(outputs)
     return cells

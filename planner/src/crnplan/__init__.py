@@ -25,31 +25,19 @@ if TYPE_CHECKING:
     from .law import Law as Law
     from .crnsim.report import Report as Report
     from .crnsim.program import find_program as find_program
-    from .read import (
-        History as History,
-        read_history as read_history,
-        read_lead_times as read_lead_times,
-    )
     from .demand.checks import Checks as Checks, check_history as check_history
     from .demand.fitted import FittedLaw as FittedLaw
     from .demand.fitting import fit_demand as fit_demand, fit_lead as fit_lead
     from .demand.learning import Prior as Prior, learn as learn
-    from .decide.keys import check_keys as check_keys
     from .decide.long_run import LongRunReport as LongRunReport
-    from .decide.doubt import doubt as doubt
-    from .decide.sensitivity import sensitivity as sensitivity
-    from .crnsim.sweep import sweep as sweep
     from .crnsim.trajectory import trajectories as trajectories
     from .planned import Plan as Plan, PlannedItem as PlannedItem
-    from .given import (
-        Reading as Reading,
-        Settings as Settings,
-        read_config as read_config,
-    )
+    from .read.items import Reading as Reading
+    from .plan.how import Settings as Settings
+    from .given import read_config as read_config
     from .api import (
         open_plan as open_plan,
         plan as plan,
-        plan_item as plan_item,
     )
     from .backtesting import Backtests as Backtests, backtest as backtest
     from .catalogues import Catalogue as Catalogue, read_catalogue as read_catalogue
@@ -72,20 +60,17 @@ _NAMES = {
     "law": ("Law",),
     "crnsim.report": ("Report",),
     "crnsim.program": ("find_program",),
-    "read": ("History", "read_history", "read_lead_times"),
     "demand.checks": ("Checks", "check_history"),
     "demand.fitted": ("FittedLaw",),
     "demand.fitting": ("fit_demand", "fit_lead"),
     "demand.learning": ("Prior", "learn"),
-    "decide.keys": ("check_keys",),
     "decide.long_run": ("LongRunReport",),
-    "decide.doubt": ("doubt",),
-    "decide.sensitivity": ("sensitivity",),
-    "crnsim.sweep": ("sweep",),
     "crnsim.trajectory": ("trajectories",),
     "planned": ("Plan", "PlannedItem"),
-    "given": ("Reading", "Settings", "read_config"),
-    "api": ("open_plan", "plan", "plan_item"),
+    "read.items": ("Reading",),
+    "plan.how": ("Settings",),
+    "given": ("read_config",),
+    "api": ("open_plan", "plan"),
     "backtesting": ("Backtests", "backtest"),
     "catalogues": ("Catalogue", "read_catalogue"),
     "curve.exchange_curve": ("exchange_curve",),
@@ -109,7 +94,7 @@ def __dir__() -> list[str]:
 
 
 class _Package(ModuleType):
-    """The package. A public function keeps its name if a module of the package has the same: `sweep`."""
+    """The package. A public function keeps its name if a module of the package has the same: `plan`."""
 
     def __setattr__(self, name: str, value: Any) -> None:
         """Sets an attribute, but for an imported module with a public name."""

@@ -4,7 +4,7 @@ from __future__ import annotations
 import shutil
 from collections.abc import Mapping
 from pathlib import Path
-from typing import TYPE_CHECKING, Unpack
+from typing import Any
 
 from .arguments import judged
 from .catalogues import (
@@ -12,43 +12,58 @@ from .catalogues import (
     Lost,
     plan_catalogue,
     settings_of,
+    warn_of_lost,
     write_found,
 )
 from .errors import Refused, argument
-from .given import COMMON, PlanWords, Reading, Settings, joined
+from .given import COMMON, joined, taken, taking
+from .plan.how import Settings
+from .read.items import Reading
 from .store.files import Folder, Room, own_folder
-from .items import plan_item as plan_one_item
 from .store.clusters import Scheduler
 from .store.means import Means
-from .money import Amount
-from .options import with_words
-from .planned import Plan, PlannedItem
-from .show.catalogue_page import CATALOGUE_FILES
+from .planned import Plan
+from .show.catalogue_page import CATALOGUE_FILES, write_scenario
 from .plan.backtest.catalogue import check_test
 from .plan.catalogue import check_earlier, planned_folder
-from .plan import how
 from .read.catalogue_reading import CATALOGUE, READ, read_into
-from .read.defaults import Defaults
-from .read.items import Words
 from .read.opening import Table
 from .read.law_forms import LAWS
 from .read.outages import OUT
 from .read.overriding import set_overrides
 from .read.stated import StatedTable, laws_frame
-from .read.told import made_from, words_of
-
-if TYPE_CHECKING:
-    import pandas as pd
-
-Roles = Mapping[str, Mapping[str, str]]
+from .read.told import made_from
+from .vocabulary import words_in
 
 
-def check_masters(sales: Table | Catalogue, masters: Table | None) -> None:
-    """Raises Refused if a table of sales has no masters beside it."""
-    if not isinstance(sales, Catalogue) and masters is None:
+# The words of `read_catalogue` that other calls name otherwise.
+OF_READING = {"masters": "items", "period": "every"}
+
+
+def rules_of(
+    sales: Table | Catalogue, tables: Mapping[str, object], words: Mapping[str, Any]
+) -> Reading:
+    """Returns how tables are read by the words of a call, or by those of a catalogue that was read. Raises Refused for
+    sales without masters, and for a catalogue beside other tables or words of reading, which would not count.
+    """
+    if not isinstance(sales, Catalogue):
+        if tables["masters"] is not None:
+            return taken(Reading, words)
         raise Refused(
             f"{argument('masters')} is missing", "give a table with a row for each item"
         )
+    given = {name for name, table in tables.items() if table is not None}
+    there = {OF_READING.get(name, name) for name in given}
+    own = {name for name, word in words_in(Reading).items() if not word.hidden}
+    others = own & words.keys() - there
+    if given or others:
+        asked = ", ".join(f"{name}=.." for name in sorted(there | others))
+        raise Refused(
+            f"{', '.join(sorted(given | others))}: not for a catalogue that was read before",
+            f"give it where that is read: read_catalogue(.., {asked})",
+        )
+    with sales.opened() as read:
+        return made_from(Reading, read.fact("told"))
 
 
 def take_tables(
@@ -57,7 +72,7 @@ def take_tables(
     masters: Table | None,
     orders: Table | None,
     out_of_stock: Table | None,
-    words: Words,
+    words: Reading,
     jobs: int | None,
     laws: StatedTable | None = None,
 ) -> None:
@@ -72,8 +87,8 @@ def take_tables(
         folder.take(part, READ)
 
 
-@judged("call", "plan", "catalogue", "common")
-@with_words(PlanWords, Words, Defaults, how.Settings, shown=COMMON)
+@judged("call", "catalogue", "common")
+@taking(Reading, Settings, shown=COMMON)
 def plan(
     sales: Table | Catalogue,
     masters: Table | None = None,
@@ -92,7 +107,7 @@ def plan(
     program: str | Path | None = None,
     learn_again: bool = False,
     progress: bool = False,
-    **words: Unpack[PlanWords],
+    **words: object,
 ) -> Plan:
     """Plans all items of a catalogue, and returns the plan. Nothing is written unless `out` names a folder.
 
@@ -105,9 +120,10 @@ def plan(
     sales : path, DataFrame or Catalogue
         A row for each movement (item, date, quantity, and perhaps returned and promotion), or for each item, with a column
         for each period: a data frame, a CSV file, or a sheet of a workbook (FILE.xlsx!SHEET). Or a Catalogue that
-        `read_catalogue` has read: the other tables and words of reading are then left out.
+        `read_catalogue` has read. Other tables of a catalogue and words of reading are then refused: `read_catalogue` takes
+        them. `overrides` is read as the catalogue was.
     masters : path or DataFrame, optional
-        A row for each item: see `items` of `read_catalogue`. It is left out if `sales` is a Catalogue.
+        A row for each item: see `items` of `read_catalogue`. It is needed unless `sales` is a Catalogue.
     orders : path or DataFrame, optional
         The dates of orders: item, ordered, received.
     out : str or Path, optional
@@ -169,10 +185,10 @@ def plan(
     0.9
     """
     known = joined(words, reading=reading, settings=settings)
-    rules = words_of(known)
-    ways = made_from(how.Settings, {**known, "every": None})
+    tables = {"masters": masters, "orders": orders, "out_of_stock": out_of_stock}
+    rules = rules_of(sales, {**tables, "laws": laws}, known)
+    ways = taken(Settings, known)
     earlier = None if after is None else Path(after)
-    check_masters(sales, masters)
     check_earlier(earlier, None if out is None else Path(out), ways)
     test = None if as_backtest is None else Path(as_backtest)
     if test is not None:
@@ -188,8 +204,11 @@ def plan(
         write_found(folder, Catalogue(folder.path / READ), ways)
         means = Means(jobs, cluster, program, progress)
         done = plan_catalogue(folder, ways, means, earlier, learn_again)
+        if room is None:
+            write_scenario(folder, program)
     if done.missing:
         raise Lost("; ".join(done.missing))
+    warn_of_lost(Catalogue(path / READ))
     return Plan(path, done.learned, program, room)
 
 
@@ -222,48 +241,3 @@ def open_plan(folder: str | Path, *, program: str | Path | None = None) -> Plan:
     with planned_folder(Path(folder)) as planned_before:
         planned_before.check()
     return Plan(Path(folder), (), program)
-
-
-@judged("item", "common")
-def plan_item(
-    history: str | Path,
-    settings: str | Path,
-    *,
-    out: str | Path | None = None,
-    program: str | Path | None = None,
-) -> PlannedItem:
-    """Plans one item from a history and settings, as `crnplan item` does, and returns the plan.
-
-    Parameters
-    ----------
-    history : str or Path
-        A CSV file.
-    settings : str or Path
-        A TOML file: docs/FORMATS.md has its keys.
-    out : str or Path, optional
-        A folder that gets all tables and the page.
-    program : str or Path, optional
-        The path of crnsim: see `find_program`.
-
-    Returns
-    -------
-    PlannedItem
-        The plan of the item.
-
-    Raises
-    ------
-    RefusedFaults
-        With all faults of the settings or of the history.
-    Refused
-        If a file can't be read or written.
-    ProgramError
-        If a run by crnsim fails.
-
-    Examples
-    --------
-    >>> case = pathlib.Path("examples/case")
-    >>> item = crn.plan_item(case / "history.csv", case / "settings.toml")
-    >>> print(item.text.splitlines()[0])
-    Below 12, order up to 31: cheaper than today's policy (15, 30)
-    """
-    return PlannedItem(plan_one_item(history, settings, out, program=program))

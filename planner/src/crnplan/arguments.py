@@ -4,21 +4,21 @@ from __future__ import annotations
 import functools
 import inspect
 import os
-import re
 from collections.abc import Callable, Iterable, Mapping
+from functools import partial
 from pathlib import Path
 from typing import Any, TypeVar, cast
 
 from .errors import Refused, argument
-from .money import exact, whole, whole_numbers
+from .money import exact, whole
 from .options import SEEN, Option, option, table_of
 from .toml.documents import shown
+from .vocabulary import UNNAMED, read_argument, several
 
 Call = TypeVar("Call", bound=Callable[..., Any])
 Read = Callable[[Option, Any], Any]
 OWN = ("self", "cls")  # what a method is called on
-# What no file or item is called: NUL, and parts of characters; and the bytes of a name at most, on Linux.
-UNNAMED, MOST_OF_NAME = re.compile(r"[\x00\ud800-\udfff]"), 255
+MOST_OF_NAME = 255  # bytes of the name of a file, on Linux
 
 
 def _refused(word: Option, value: Any, what: str, advice: str) -> Refused:
@@ -41,20 +41,8 @@ def _number(word: Option, value: Any) -> float:
 
 def _share(word: Option, value: Any) -> float:
     from .read.amounts import share_of
-    from .read.defaults import read_argument
 
     return float(read_argument(word.name, value, share_of))
-
-
-def _stated(word: Option, value: Any) -> Any:
-    """Returns a value that its function can read, as it is."""
-    from .read.defaults import read_argument
-    from .read.frames import is_missing
-
-    if is_missing(value):
-        raise _refused(word, value, "not known", "leave it out, or write a value")
-    read_argument(word.name, value, word.read)
-    return value
 
 
 def _choice(word: Option, value: Any) -> str:
@@ -71,10 +59,6 @@ def _text(word: Option, value: Any) -> str:
     return value
 
 
-def _seed(word: Option, value: Any) -> str:
-    return value if isinstance(value, str) else str(whole(value, argument(word.name)))
-
-
 def _name(word: Option, value: Any) -> str:
     """Returns a name of an item or a column, as a table has it that is read."""
     from .read.frames import name_of
@@ -85,57 +69,9 @@ def _name(word: Option, value: Any) -> str:
     return name_of(value)
 
 
-def _column(word: Option, value: Any) -> str:
-    name = _name(word, value)
-    if not name:
-        raise _refused(word, value, "no name", "write it as in the table")
-    return name
-
-
 def _several(read: Read) -> Read:
     """Returns what reads several values, or a single one."""
-
-    def several(word: Option, value: Any) -> tuple[Any, ...]:
-        if isinstance(value, Mapping) or not isinstance(value, Iterable):
-            value = [value]
-        values = [value] if isinstance(value, str) else value
-        return tuple(read(word, one) for one in values)
-
-    return several
-
-
-def _by_name(read: Read) -> Read:
-    """Returns what reads values by name. One that is None is as by default."""
-
-    def by_name(word: Option, value: Any) -> dict[str, Any]:
-        if not isinstance(value, Mapping):
-            advice = f"write it by name, as {word.example}"
-            raise _refused(word, value, "no dict", advice)
-        stated = {name: one for name, one in value.items() if one is not None}
-        return {_name(word, name): read(word, one) for name, one in stated.items()}
-
-    return by_name
-
-
-def _pairs(word: Option, value: Any) -> dict[str, Any]:
-    """Returns values by name, each as the facts of the word say it."""
-    read: Read = _name
-    if word.choices:
-        read = _choice
-    elif word.range:
-        read = _whole
-    elif word.read:
-        read = _stated
-    return cast(dict[str, Any], _by_name(read)(word, value))
-
-
-def _key(word: Option, value: Any) -> Any:
-    """Returns a word of the key of a stream, or several."""
-    return value if isinstance(value, str) else _several(_text)(word, value)
-
-
-def _conditions(word: Option, value: Any) -> Any:
-    return value if isinstance(value, Mapping) else _several(_text)(word, value)
+    return lambda word, value: several(partial(read, word))(value)
 
 
 def _flag(word: Option, value: Any) -> bool:
@@ -178,12 +114,6 @@ def _laws(word: Option, value: Any) -> Any:
     return _table(word, laws_frame(value))
 
 
-def _whole_numbers(word: Option, value: Any) -> list[int]:
-    from .read.defaults import read_argument
-
-    return read_argument(word.name, value, lambda given: whole_numbers(given, "entry"))
-
-
 def _scheduler(word: Option, value: Any) -> Any:
     if not isinstance(value, str) and not hasattr(value, "scheduler_info"):
         advice = "write its address, or give a Client"
@@ -222,26 +152,16 @@ def _anything(word: Option, value: Any) -> Any:
 # What reads the arguments of each kind.
 KINDS: Mapping[str, Read] = {
     "text": _text,
-    **dict.fromkeys(("choice", "sign"), _choice),
-    **dict.fromkeys(("share", "percent"), _share),
-    **dict.fromkeys(("stated", "shares"), _stated),
+    "choice": _choice,
+    "share": _share,
     **dict.fromkeys(("path", "folder", "file"), _path),
     "whole": _whole,
-    "numbers": _whole_numbers,
     "number": _number,
     "flag": _flag,
     "date": _date,
     "texts": _several(_text),
-    "pairs": _pairs,
-    "places": _by_name(_by_name(_name)),
-    "names": _by_name(_by_name(_several(_name))),
-    "written": _by_name(_by_name(_anything)),
     "name": _name,
-    "column": _column,
     "items": _several(_name),
-    "seed": _seed,
-    "keys": _several(_key),
-    "conditions": _conditions,
     "table": _table,
     "catalogue": _tables,
     "laws": _laws,
@@ -253,10 +173,11 @@ KINDS: Mapping[str, Read] = {
 }
 
 
-def word_of(name: str, tables: Iterable[str]) -> Option:
-    """Returns the word of an argument in the first of some tables of options.toml that has it."""
-    table = next(table for table in tables if name in table_of(table))
-    return option(f"{table}.{name}")
+def word_of(name: str, tables: Iterable[str]) -> Option | None:
+    """Returns the word of an argument in the first of some tables of options.toml that has it; None if it is one of
+    reading or planning, which their classes read."""
+    table = next((table for table in tables if name in table_of(table)), None)
+    return option(f"{table}.{name}") if table else None
 
 
 def judged(*tables: str) -> Callable[[Call], Call]:
@@ -283,7 +204,8 @@ def judged(*tables: str) -> Callable[[Call], Call]:
                     given.arguments[name] = part.default
                 elif name not in OWN:
                     word = word_of(name, tables)
-                    given.arguments[name] = KINDS[word.kind](word, value)
+                    if word:
+                        given.arguments[name] = KINDS[word.kind](word, value)
             return function(*given.args, **given.kwargs)
 
         setattr(called, "__signature__", getattr(function, SEEN, signature))

@@ -1,23 +1,22 @@
 """Tests plans on a catalogue's own past, as a value for a notebook, and into a folder."""
 from __future__ import annotations
 
-import datetime
 import tempfile
-from collections.abc import Sequence
 from dataclasses import dataclass, field
 from pathlib import Path
-from typing import TYPE_CHECKING, ClassVar, TypedDict, Unpack
+from typing import TYPE_CHECKING, Any, ClassVar
 
-from .api import Roles, check_masters, take_tables
+from .api import rules_of, take_tables
 from .arguments import judged
-from .catalogues import Catalogue
-from .given import Reading, Settings, joined
+from .catalogues import Catalogue, warn_of_lost
+from .given import COMMON, joined, taken, taking
+from .plan.how import Settings
+from .read.items import Reading
 from .errors import Refused
-from .options import with_words
 from .store.files import Folder, own_folder
 from .store.clusters import Scheduler
 from .store.means import Means
-from .show.backtest_page import backtest_page, named_curves
+from .show.backtest_page import backtest_page, curve_plot, summed_of
 from .show.backtest_tables import (
     BACKTEST,
     PAGE,
@@ -31,16 +30,14 @@ from .show.backtest_tables import (
 from .show.verdicts import gains_said, past_said
 from .plan.backtest.catalogue import Tested, backtest_into
 from .plan.backtest.methods import Walk
-from .plan import how
-from .read.catalogue_reading import CATALOGUE
-from .read.items import Words
+from .read.catalogue_reading import CATALOGUE, READ
 from .read.opening import Table
-from .read.told import made_from, words_of
 from .table import DataTable, Json, Result
 
 if TYPE_CHECKING:
     import pandas as pd
-    from matplotlib.axes import Axes
+
+    from .show.pictures import Picture
 
 
 @dataclass(frozen=True, eq=False, repr=False)
@@ -90,24 +87,20 @@ class Backtests(Result):
         """Returns what was promised, what came, and the verdicts."""
         return f"{first_line(self.tested.whole)}\n{backtest_summary(self.tested)}"
 
-    def plot(self, ax: Axes | None = None) -> Axes:
-        """Draws what each method met at once by its stock, and returns the axes.
-
-        Parameters
-        ----------
-        ax : matplotlib.axes.Axes, optional
-            Where to draw; by default on a new figure.
+    def plot(self) -> Picture:
+        """Draws what each method met at once by its stock.
 
         Raises
         ------
         Refused
             If no item was tested.
         """
-        from .show.plots import plot_methods
+        from .show.pictures import Picture
 
         if self.tested.whole is None:
             raise Refused(first_line(None), "test longer records")
-        return plot_methods(named_curves(self.tested), self.tested.whole.promised, ax)
+        tests = [test for _, test in summed_of(self.tested)]
+        return Picture.of([curve_plot(tests, self.tested.whole.promised)])
 
     @property
     def page(self) -> str:
@@ -116,7 +109,7 @@ class Backtests(Result):
 
 
 def write_backtest(
-    folder: Folder, settings: how.Settings, walk: Walk, means: Means
+    folder: Folder, settings: Settings, walk: Walk, means: Means
 ) -> Backtests:
     """Tests the catalogue that was read into a folder, and writes its tables and its summary there."""
     tests = Backtests(backtest_into(folder, settings, walk, means))
@@ -127,22 +120,8 @@ def write_backtest(
     return tests
 
 
-class BacktestWords(TypedDict, total=False):
-    """How the tables of a catalogue are read, and how its items are planned: see `backtest`."""
-
-    columns: Roles | None
-    units: Roles | None
-    start: datetime.date | str | None
-    end: datetime.date | str | None
-    date_formats: Sequence[str]
-    fit: str
-    borrow: str | None
-    confidence: float | None
-    seed: str | int
-
-
-@judged("backtest", "call", "plan", "catalogue", "common")
-@with_words(BacktestWords, Words, how.Settings)
+@judged("backtest", "call", "catalogue", "common")
+@taking(Reading, Settings, shown=COMMON)
 def backtest(
     sales: Table | Catalogue,
     masters: Table | None = None,
@@ -160,7 +139,7 @@ def backtest(
     jobs: int | None = None,
     cluster: Scheduler | None = None,
     progress: bool = False,
-    **words: Unpack[BacktestWords],
+    **words: object,
 ) -> Backtests:
     """Tests plans on a catalogue's own past: what they would have promised, and what came.
 
@@ -187,7 +166,7 @@ def backtest(
     sales : path, DataFrame or Catalogue
         As in `plan`: movements, or a Catalogue that `read_catalogue` has read.
     masters : path or DataFrame, optional
-        A row for each item. It is left out if `sales` is a Catalogue.
+        A row for each item. It is needed unless `sales` is a Catalogue.
     orders : path or DataFrame, optional
         Dates of orders: item, ordered, received.
     record : int, at least 1, default 52
@@ -214,6 +193,8 @@ def backtest(
         The address of a Dask scheduler, or a client, whose workers work in place of processes.
     progress : bool, default False
         Shows on standard error how many items are tested.
+    **words
+        Any other word of `Reading` and of `Settings`.
 
     Returns
     -------
@@ -234,12 +215,14 @@ def backtest(
     """
     own = {} if period is None else {"every": period}
     known = joined({**words, **own}, reading=reading, settings=settings)
-    rules, ways = words_of(known), made_from(how.Settings, {**known, "every": None})
+    tables = {"masters": masters, "orders": orders, "out_of_stock": out_of_stock}
+    rules = rules_of(sales, {**tables, "period": period}, known)
+    ways = taken(Settings, known)
     walk = Walk.of(ways, record, every, window, least_gain)
     means = Means(jobs, cluster, shown=progress)
-    check_masters(sales, masters)
     with tempfile.TemporaryDirectory(prefix="crnplan-") as room, own_folder(
         Path(out or room), CATALOGUE
     ) as folder:
         take_tables(folder, sales, masters, orders, out_of_stock, rules, jobs)
+        warn_of_lost(Catalogue(folder.path / READ))
         return write_backtest(folder, ways, walk, means)

@@ -2,24 +2,24 @@
 from __future__ import annotations
 
 import contextlib
+import warnings
 from collections.abc import Mapping, Sequence
 from dataclasses import dataclass, field
 from pathlib import Path
-from typing import TYPE_CHECKING, Any, Unpack, cast
+from typing import TYPE_CHECKING, Any, cast
 
 from .arguments import judged
-from .errors import Failed, argument, worded
-from .given import COMMON, Reading, ReadingWords, joined
+from .errors import CrnplanError, Failed, argument, worded
+from .given import COMMON, joined, taken, taking
+from .plan.how import Settings
 from .store.files import Folder, Room
 from .store.means import Means
-from .options import with_words
 from .show.catalogue_page import FOUND, write_catalogue, write_tables
-from .show.catalogue_tables import REJECTS, rejects_of
+from .show.catalogue_tables import REJECTS, hardly_planned, rejects_of
 from .show.control_tables import controls_of
 from .show.page import rendered
 from .plan.backtest.catalogue import settings_as
 from .plan.catalogue import planning
-from .plan.how import Settings
 from .plan.totals import Totals
 from .read.catalogue_reading import (
     READ,
@@ -28,14 +28,13 @@ from .read.catalogue_reading import (
     missing_of,
     read_alone,
 )
-from .read.defaults import Defaults
-from .read.items import Counts, Words
+from .read.items import Counts, Reading
 from .read.lateness import receipt_remarks
 from .read.law_forms import LAWS
 from .read.outages import OUT
 from .read.opening import Table
 from .read.stated import StatedTable, laws_frame
-from .read.told import merged, told_of, words_of
+from .read.told import merged, told_of
 from .remarks import Remark
 from .table import Json
 from .words import advised, sentence
@@ -87,6 +86,12 @@ class Catalogue:
         """Returns how many rows of each file there are, by what became of them, and how many items."""
         return cast(Counts, self.fact("counts"))
 
+    def __repr__(self) -> str:
+        parts = [repr(str(self.path))]
+        with contextlib.suppress(CrnplanError):
+            parts += hardly_planned(self.counts["items"])
+        return f"Catalogue({', '.join(parts)})"
+
     @property
     def found(self) -> str:
         """Returns what was stated of the files and what was found in them, as TOML that gives the same reading."""
@@ -127,6 +132,12 @@ class Catalogue:
             return rejects_of(read.rejects(), read.fact("keys")).frame
 
 
+def warn_of_lost(catalogue: Catalogue) -> None:
+    """Warns the caller of a judged call, from which this is called, that most items of a catalogue are left out."""
+    for line in hardly_planned(catalogue.counts["items"]):
+        warnings.warn(f"{line}; `rejects` says why: correct the tables", stacklevel=4)
+
+
 def stated_of(catalogue: Catalogue, more: Mapping[str, Any]) -> str:
     """Returns what was stated of the files of a catalogue and found in them, with more words, as those of planning."""
     with catalogue.opened() as read:
@@ -147,8 +158,8 @@ def stated_of(catalogue: Catalogue, more: Mapping[str, Any]) -> str:
     )
 
 
-@judged("call", "plan", "catalogue", "common")
-@with_words(ReadingWords, Words, Defaults, shown=COMMON)
+@judged("call", "catalogue", "common")
+@taking(Reading, shown=COMMON)
 def read_catalogue(
     demand: Table,
     items: Table,
@@ -158,11 +169,13 @@ def read_catalogue(
     laws: StatedTable | None = None,
     reading: Reading | None = None,
     jobs: int | None = None,
-    **words: Unpack[ReadingWords],
+    **words: object,
 ) -> Catalogue:
     """Reads a catalogue from CSV files of any size, also gzipped, sheets of workbooks (FILE.xlsx!SHEET) or data frames.
 
-    Nothing is lost: each row and item that is left out is in `rejects`, with its place, the reason and advice.
+    Nothing is lost: each row and item that is left out is in `rejects`, with its place, the reason and advice. This call, `plan` and
+    `backtest` warn if more than half of the items to plan are left out: those of masters with demand or a law that no status
+    ends. Amounts of money with more than 8 decimals are rounded to these.
 
     Parameters
     ----------
@@ -219,12 +232,13 @@ def read_catalogue(
     >>> len(read.rejects)
     0
     """
-    rules = words_of(joined(words, reading=reading))
+    rules = taken(Reading, joined(words, reading=reading))
     room = Room("pickle the tables, and read them where they are needed")
     tables = {"demand": demand, "items": items, "orders": orders, OUT: out_of_stock}
     tables[LAWS] = laws_frame(laws)
-    path = read_alone(room.path, tables, rules, jobs)
-    return Catalogue(path, room)
+    read = Catalogue(read_alone(room.path, tables, rules, jobs), room)
+    warn_of_lost(read)
+    return read
 
 
 def write_found(folder: Folder, read: Catalogue, settings: Settings) -> str:

@@ -3,6 +3,7 @@ each. The forms are in columns.toml here."""
 from __future__ import annotations
 
 import functools
+import itertools
 import tomllib
 from collections.abc import Callable, Mapping, Sequence
 from pathlib import Path
@@ -12,6 +13,7 @@ from typing import Any
 from .table import Column
 
 Cells = Mapping[str, Callable[[Any], Any]]
+Words = Mapping[str, object]
 NO_CELLS: Cells = MappingProxyType({})
 
 
@@ -32,18 +34,33 @@ def whole_entry(package: str, entry: Sequence[str]) -> Sequence[str]:
     return form, own[0] if own else path, meaning
 
 
+def _column(
+    package: str, name: str, entry: Sequence[str], cells: Cells, words: Words
+) -> Column:
+    """Returns a declared column with words in place of those in braces."""
+    form, path, meaning = whole_entry(package, entry)
+    traits: dict[str, Any] = {"unit": ""} | declared("columns.toml")[form]
+    column = Column(name.format(**words), meaning=meaning.format(**words), **traits)
+    return column.by(path.format(**words) if path else cells[name])
+
+
 def columns_of(
-    package: str, table: str, cells: Cells = NO_CELLS, **words: object
+    package: str,
+    table: str,
+    cells: Cells = NO_CELLS,
+    each: Sequence[Words] = ({},),
+    **words: object,
 ) -> tuple[Column, ...]:
     """Returns the columns of a table of a package in their order.
 
     `cells` has the functions that make the cells of columns without a path, by their declared names. `words` stand in
-    place of the words in braces.
+    place of the words in braces. Columns side by side whose names have such words stand once for each of `each`.
     """
     columns = []
-    for name, entry in declared(f"{package}/columns.toml")[table].items():
-        form, path, meaning = whole_entry(package, entry)
-        traits: dict[str, Any] = {"unit": ""} | declared("columns.toml")[form]
-        column = Column(name.format(**words), meaning=meaning.format(**words), **traits)
-        columns.append(column.by(path.format(**words) if path else cells[name]))
+    entries = declared(f"{package}/columns.toml")[table].items()
+    for is_many, group in itertools.groupby(entries, lambda entry: "{" in entry[0]):
+        side_by_side = [*group]
+        for own in each if is_many else ({},):
+            for name, entry in side_by_side:
+                columns.append(_column(package, name, entry, cells, {**words, **own}))
     return tuple(columns)

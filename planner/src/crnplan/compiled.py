@@ -141,8 +141,9 @@ def compile_all() -> None:
     from .theory.run_effects import start_bias
 
     counts = 12 * [0, 0, 3, 0, 1, 0, 0, 9, 0]
+    first_month = 12 * 2000  # months are numbered from the year 0
     borrowed_laws(learn([counts] * 100), counts, times=1)
-    remarks_of(counts, season=12)
+    remarks_of(counts, "month", first_month)
     demand = fit_demand(counts)
     for lead, returns in (([2], None), ([1, 3], None), ([1, 3], [0, 0, 0, 0, 1])):
         scenario = Scenario.of(

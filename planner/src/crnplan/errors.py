@@ -40,7 +40,7 @@ def as_python(name: str, value: str) -> str:
     place, sign, text = value.partition("=")
     if not sign:
         return f"{name}={value}"
-    entry = text if text.isdecimal() else f'"{text}"'
+    entry = text if text.isdecimal() and text == str(int(text)) else f'"{text}"'
     kind, _, role = place.partition(".")
     if role:
         return f'{name}={{"{kind}": {{"{role}": {entry}}}}}'

@@ -1,25 +1,23 @@
-"""Declares the words of calls on catalogues: how tables are read, and how items are planned. They are given one by one, or
-together as a value that several calls share."""
+"""Has the words of calls on catalogues, given one by one or together as values that several calls share."""
 from __future__ import annotations
 
 import inspect
-from collections.abc import Iterator, Mapping, Sequence
+from collections.abc import Callable, Collection, Mapping
 from pathlib import Path
-from typing import Any, TypedDict, Unpack
+from typing import Any, TypeVar
 
 from .arguments import judged
 from .errors import Refused, argument
-from .money import Amount, Number
-from .options import CALL, PLAN, with_words, within
-from .plan import how
+from .options import CALL, SEEN
+from .plan.how import Settings
 from .plan.settings import read_config as config_in
-from .read.choosing import Where
-from .read.columns import ROLES
-from .read.defaults import Defaults
-from .read.items import Words
-from .read.observed import Day
-from .read.told import BY_PLACE, by_kind
+from .read.items import Reading
+from .read.told import made_from
+from .vocabulary import Vocabulary, Word, words_in
 
+Call = TypeVar("Call", bound=Callable[..., Any])
+Made = TypeVar("Made", bound=Vocabulary)
+RETURNS = "Returns\n-------"  # before what a call returns, in its docstring
 # The words that a call shows among its own arguments; it takes the others too.
 COMMON = (
     *("columns", "units", "every", "start", "end", "holding_rate", "fill", "service"),
@@ -27,156 +25,56 @@ COMMON = (
 )
 
 
-class FileWords(TypedDict, total=False):
-    """How tables are read: see `Reading`."""
-
-    columns: Mapping[str, Mapping[str, str]] | None
-    units: Mapping[str, Mapping[str, str]] | None
-    where: Where | None
-    delimiter: str | None
-    encoding: str | None
-    decimal: str | None
-    date_formats: Sequence[str]
-
-
-class ReadingWords(FileWords, total=False):
-    """How the tables of a catalogue are read, and what masters need not say: see `Reading`."""
-
-    every: str
-    names: Mapping[str, Mapping[str, Sequence[str]]] | None
-    start: Day | str | None
-    end: Day | str | None
-    today: Day | None
-    net: bool
-    negate: bool
-    empty: str | None
-    twice: str | None
-    far: str
-    least: int
-    lead_from: str
-    factors: Mapping[str, int] | None
-    statuses: Mapping[str, str] | None
-    stopped: str
-    setup: Amount | None
-    holding_rate: Amount | None
-    fill: Amount | None
-    no_shortage: Amount | None
-    lead: str | None
-    review: int | str | None
-    service: Mapping[str, Amount] | None
-    currency: str | None
-    abc: str | Sequence[Number] | None
-    written: Mapping[str, Mapping[str, object]] | None
-
-
-class SettingsWords(TypedDict, total=False):
-    """How the items of a catalogue are planned: see `Settings`."""
-
-    least_gain: float | None
-    fit: str
-    borrow: str | None
-    confidence: float | None
-    together: Amount | Mapping[str, Amount] | None
-    weigh: str
-    at_least: float | None
-    correct: bool
-    order_min: int | None
-    max_coverage: int | None
-    s_min: int | None
-    window: int | None
-    season: str
-    follow: str
-    level: float
-    seed: str | int
-    periods: int
-    replications: int
-
-
-class PlanWords(ReadingWords, SettingsWords, total=False):
-    """How the tables of a catalogue are read, and how its items are planned: see `Reading` and `Settings`."""
-
-
-class Given(Mapping[str, Any]):
-    """Words by name, as they were given. Two are equal if they say the same."""
-
-    def __init__(self, words: Mapping[str, Any]) -> None:
-        self._words = {name: words[name] for name in sorted(words)}
-
-    def __getitem__(self, name: str) -> Any:
-        return self._words[name]
-
-    def __iter__(self) -> Iterator[str]:
-        return iter(self._words)
-
-    def __len__(self) -> int:
-        return len(self._words)
-
-    def __repr__(self) -> str:
-        said = ", ".join(f"{name}={value!r}" for name, value in self.items())
-        return f"{type(self).__name__}({said})"
-
-
-class Reading(Given):
-    """Says how the tables of a catalogue are read, and what masters need not say, for several calls at once.
-
-    Examples
-    --------
-    >>> reading = crn.Reading(every="week", lead="14 days")
-    >>> read = crn.read_catalogue(sales, masters, reading=reading)
-    >>> reading
-    Reading(every='week', lead='14 days')
-    """
-
-    @judged(CALL, PLAN)
-    @with_words(ReadingWords, Words, Defaults)
-    def __init__(self, **words: Unpack[ReadingWords]) -> None:
-        super().__init__(words)
-
-    __doc__ = f"{inspect.cleandoc(__doc__ or '')}\n\n{__init__.__doc__}"
-
-
-class Settings(Given):
-    """Says how the items of a catalogue are planned, for several calls at once.
-
-    Examples
-    --------
-    >>> settings = crn.Settings(season="none", seed=7)
-    >>> plan = crn.plan(sales, masters, settings=settings, jobs=1)
-    """
-
-    @judged(CALL, PLAN)
-    @with_words(SettingsWords, Defaults, how.Settings)
-    def __init__(self, **words: Unpack[SettingsWords]) -> None:
-        super().__init__(words)
-
-    __doc__ = f"{inspect.cleandoc(__doc__ or '')}\n\n{__init__.__doc__}"
-
-
-def joined(words: Mapping[str, Any], **values: Given | None) -> dict[str, Any]:
+def joined(words: Mapping[str, Any], **values: Vocabulary | None) -> dict[str, Any]:
     """Returns the words of a call with those of its values. Raises Refused for a word that is said twice."""
     known = dict(words)
     for name, value in values.items():
-        for word in value or ():
+        own = value.given if value else {}
+        for word in own:
             if word in known:
                 raise Refused(
                     f"{argument(word)} is said by itself and in {argument(name)}",
                     "leave one out",
                 )
-        known |= value or {}
+        known |= own
     return known
 
 
-def words_in(tree: Mapping[str, Any]) -> dict[str, Any]:
-    """Returns the words of the table [catalogue] of crnplan.toml by the names of arguments."""
-    words: dict[str, Any] = {}
-    columns = {kind: tree[kind] for kind in ROLES if kind in tree}
-    if columns:
-        words["columns"] = columns
-    for word in within(PLAN):
-        if word.name != "columns" and word.key in tree:
-            value = tree[word.key]
-            words[word.name] = by_kind(value) if word.name in BY_PLACE else value
-    return words
+def taking(
+    *kinds: type, shown: Collection[str] | None = None
+) -> Callable[[Call], Call]:
+    """Returns a decorator of a call that takes the words of some classes. Its docstring and the signature that users see
+    have those that are `shown`, by default all."""
+
+    def made(function: Call) -> Call:
+        signature = inspect.signature(function)
+        *own, rest = signature.parameters.values()
+        names = {part.name for part in own}
+        words = [word for word in words_of(*kinds).values() if word.name not in names]
+        seen = [word for word in words if shown is None or word.name in shown]
+        ends = [] if shown is None else [rest]
+        whole = [*own, *(word.parameter for word in words)]
+        visible = [*own, *(word.parameter for word in seen), *ends]
+        setattr(function, "__signature__", signature.replace(parameters=whole))
+        setattr(function, SEEN, signature.replace(parameters=visible))
+        heading = "Other Parameters" if own[1:] else "Parameters"
+        lines = [heading, "-" * len(heading), *(word.entry for word in seen)]
+        text, returned, more = (inspect.getdoc(function) or "").partition(RETURNS)
+        function.__doc__ = "\n".join([text, *lines, "", returned + more]).strip()
+        return function
+
+    return made
+
+
+def words_of(*kinds: type) -> dict[str, Word]:
+    """Returns the words of some classes by name, each from where it is declared."""
+    known = [word for kind in kinds for word in words_in(kind).values()]
+    return {word.name: word for word in known if not word.hidden}
+
+
+def taken(kind: type[Made], known: Mapping[str, Any]) -> Made:
+    """Returns a value of a class with its own of some words."""
+    return kind(**{name: known[name] for name in words_in(kind) if name in known})
 
 
 @judged(CALL)
@@ -203,11 +101,8 @@ def read_config(path: str | Path) -> tuple[Reading, Settings]:
     Examples
     --------
     >>> reading, settings = crn.read_config(plan.path / "found.toml")
-    >>> reading["every"]
+    >>> reading.every
     'week'
     """
-    words = words_in(config_in(path))
-    kinds = ReadingWords, SettingsWords
-    own = [names.__annotations__.keys() & words.keys() for names in kinds]
-    reading, settings = ({name: words[name] for name in names} for names in own)
-    return Reading(**reading), Settings(**settings)
+    tree = config_in(path)
+    return made_from(Reading, tree), made_from(Settings, tree)

@@ -18,7 +18,8 @@ from .toml.documents import shown
 if TYPE_CHECKING:
     import numpy as np
     import pandas as pd
-    from matplotlib.axes import Axes
+
+    from .show.pictures import Picture
 
     from .chances import Floats, Whole
 
@@ -149,17 +150,11 @@ class Law:
         columns = {"value": self.values, "weight": self.weights, "chance": chances}
         return pd.DataFrame(columns)
 
-    def plot(self, ax: Axes | None = None) -> Axes:
-        """Draws the chance of each value, and returns the axes.
+    def plot(self) -> Picture:
+        """Draws the chance of each value."""
+        from .show.pictures import law_picture
 
-        Parameters
-        ----------
-        ax : matplotlib.axes.Axes, optional
-            Where to draw; by default on a new figure.
-        """
-        from .show.plots import plot_law
-
-        return plot_law(self, ax)
+        return law_picture(self)
 
     @classmethod
     def of_shares(cls, shares: Mapping[int, Fraction]) -> Law:

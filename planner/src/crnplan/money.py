@@ -25,6 +25,7 @@ SCALES = [
 # The power of ten at the end of a number; that of the smallest float, and the greatest float.
 EXPONENT = re.compile(r"e([-+]?\d[\d_]*)\s*$", re.IGNORECASE)
 MOST_EXPONENT, GREATEST = 324, Fraction(sys.float_info.max)
+MISSING = ("<NA>", "NaT", "nan", "NaN")  # as their values show themselves
 # The decimals of currencies that don't have two. Source: ISO 4217, table A.1, minor units.
 PLACES = {
     **dict.fromkeys(
@@ -105,11 +106,14 @@ def exact(value: Any) -> Fraction | None:
     return number if abs(number) <= GREATEST else None
 
 
-def whole(value: Any, name: str) -> int:
-    """Returns a whole number of any type: int, numpy's, or a float, Decimal or Fraction without a rest.
+def is_missing(value: Any) -> bool:
+    """Returns whether a value says that there is none: None, NaN, NaT, or what pandas has for it."""
+    return value is None or not isinstance(value, str) and str(value) in MISSING
 
-    Raises Refused if it is none. `name` says what it is.
-    """
+
+def whole_in(value: Any) -> int:
+    """Returns a whole number of any type: int, numpy's, or a float, Decimal or Fraction without a rest. Raises Refused
+    if it is none."""
     if type(value) is int:
         return value
     number = None if isinstance(value, str) else exact(value)
@@ -118,9 +122,17 @@ def whole(value: Any, name: str) -> int:
     advice = "write it as 12"
     if number is not None:
         advice = "round it, or count in a smaller unit"
-    elif value is None or str(value) in ("nan", "<NA>"):
+    elif is_missing(value):
         advice = "leave it out"
-    raise Refused(f"{name}: {shown(value)} is not a whole number", advice)
+    raise Refused(f"{shown(value)} is not a whole number", advice)
+
+
+def whole(value: Any, name: str) -> int:
+    """Returns a whole number: see `whole_in`. `name` says in a refusal what it is."""
+    try:
+        return whole_in(value)
+    except Refused as why:
+        raise Refused(f"{name}: {why.what}", why.advice) from why
 
 
 def whole_numbers(values: Any, name: str) -> list[int]:

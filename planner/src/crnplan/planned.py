@@ -2,23 +2,27 @@
 from __future__ import annotations
 
 import datetime
-from collections.abc import Iterable, Mapping
+from collections.abc import Iterable
 from dataclasses import dataclass, field, fields, replace
 from functools import cached_property
 from pathlib import Path
-from typing import TYPE_CHECKING, Any, ClassVar, SupportsIndex, Unpack
+from typing import TYPE_CHECKING, Any, ClassVar, SupportsIndex
 
 from .arguments import judged
 from .catalogues import Catalogue
-from .given import FileWords
-from .crnsim.program import find_program
+from .given import taken, taking
+from .read.items import Reading
 from .errors import CrnplanError, Refused, argument
 from .store.files import Room
 from .store.clusters import Scheduler
-from .money import Amount
-from .options import with_words
-from .show.catalogue_page import report
-from .show.catalogue_tables import catalogue_summary, decisions_of, rejects_of
+from .show.catalogue_page import report, words_on
+from .show.catalogue_tables import (
+    catalogue_summary,
+    decisions_of,
+    details_of,
+    hardly_planned,
+    rejects_of,
+)
 from .show.change_tables import change_lines, changes_of
 from .show.calendars import levels_of
 from .show.lateness import lateness_of
@@ -26,15 +30,12 @@ from .show.today_tables import OrdersToday, orders_today
 from .show.item_page import ItemWords, item_page, item_summary, policies_of
 from .plan.catalogue import planned_folder
 from .plan.totals import Totals
-from .plan.item import depth_of
 from .plan.survey import Survey
 from .plan.what_ifs import Moves
+from .policies import Policy
 from .read.catalogue_reading import READ
-from .read.defaults import Defaults
 from .read.frames import name_of
-from .read.items import Words
 from .read.opening import Table
-from .read.told import words_of
 from .remarks import Remark
 from .scenario import Scenario
 from .table import DataTable, Json, Result
@@ -42,10 +43,10 @@ from .words import counted
 
 if TYPE_CHECKING:
     import pandas as pd
-    from matplotlib.axes import Axes
-    from matplotlib.figure import Figure
 
+    from .crnsim.periods import Period
     from .curve.exchange_curve import Drawn
+    from .show.pictures import Picture
 
 
 @dataclass(frozen=True, eq=False, repr=False)
@@ -68,7 +69,7 @@ class Figures(Result):
 
 @dataclass(frozen=True, eq=False, repr=False)
 class PlannedItem(Result):
-    """The plan of one item. `frame` has its policies, the cheapest first; `text` is a summary of one screen."""
+    """The plan of one item. `frame` has its policies, the cheapest first; `text` says what was decided."""
 
     words: ItemWords = field(repr=False)
     brief: ClassVar = "policy s S cost difference verdict fill stock".split()
@@ -88,7 +89,7 @@ class PlannedItem(Result):
 
     @cached_property
     def text(self) -> str:
-        """Returns the summary, of at most 24 lines."""
+        """Returns what was decided, the policies, and what must be said of them."""
         return item_summary(self.words)
 
     @property
@@ -118,16 +119,17 @@ class PlannedItem(Result):
         costs then."""
         return self.words.depth.moves
 
-    def plot(self) -> Figure:
-        """Returns a picture of stock, position and orders of today's and the chosen policy in one run."""
+    def plot(self) -> Picture:
+        """Draws stock, position and orders of today's and the chosen policy in one run."""
         from .show.pictures import trajectories_picture
 
-        drawn = self.words.depth.trajectory
-        policies = [
-            policy for policy in self.words.depth.policies if policy.name in drawn
-        ]
-        runs = [drawn[policy.name] for policy in policies]
-        start = next(iter(drawn.values()))[0]
+        box = self.words.item.box
+        policies: list[Policy] = []
+        runs: list[list[Period]] = []
+        for name, periods in self.words.depth.trajectory.items():
+            policies.append(Policy(name, *self.words.figures[name].levels))
+            runs.append([period.times(box) for period in periods])
+        start = runs[0][0]
         initial = start.position + start.net_demand - start.ordered
         return trajectories_picture(policies, runs, initial)
 
@@ -137,10 +139,8 @@ class PlannedItem(Result):
         return item_page(self.words)
 
 
-class TodayWords(FileWords, total=False):
-    """How today's tables are read, and the least value of an order by supplier."""
-
-    supplier_min: Mapping[str, Amount] | None
+# The words of reading that a day's orders show.
+OF_TODAY = "columns", "units", "where", "supplier_min"
 
 
 @dataclass(frozen=True, eq=False, repr=False)
@@ -162,7 +162,7 @@ class Plan(Result):
     program: str | Path | None = field(default=None, repr=False)
     room: Room | None = field(default=None, repr=False, compare=False)
     brief: ClassVar = (
-        "item verdict s_today S_today s_chosen S_chosen saving fill_chosen".split()
+        "item s_chosen S_chosen saving verdict s_today S_today fill_chosen".split()
     )
 
     @property
@@ -173,16 +173,20 @@ class Plan(Result):
                 items = counted(len([*self.table.rows]), "item")
                 periods = counted(folder.read.length, folder.every)
                 saving = folder.currency.text(float(self.totals["saving"]))
+                lost = hardly_planned(folder.counts["items"])
         except CrnplanError as fault:
             return str(fault)
-        return f"{items}, {periods}, saves {saving} a {folder.every}"
+        parts = [items, periods, f"saves {saving} a {folder.every}", *lost]
+        return ", ".join(parts)
 
     @property
     def content(self) -> list[list[dict[str, Json]]]:
-        """Returns the decisions, what is left out, the levels by month, and the changes, as plain data."""
+        """Returns the decisions with their details, what is left out, the levels by month, and the changes, as plain
+        data."""
         with planned_folder(self._folder) as folder:
             left = rejects_of(folder.read.rejects(Survey.of(folder).faults))
-            tables = self.table, left, levels_of(folder), changes_of(folder)
+            details = details_of(folder, folder.answers())
+            tables = self.table, details, left, levels_of(folder), changes_of(folder)
             return [table.records for table in tables]
 
     def __getstate__(self) -> dict[str, Any]:
@@ -210,11 +214,19 @@ class Plan(Result):
 
     @property
     def decisions(self) -> pd.DataFrame:
-        """Returns a typed row for each planned item: today's (empty if there is none) and the chosen policy, costs and
-        saving of a period in money, by theory or by crnsim (`by`), the run beside with its interval, service, stock,
-        orders and warnings. `item` is a whole number of the type that the data frame of the masters has, or a text.
-        docs/TABLES.md has all columns."""
+        """Returns a typed row for each planned item: the chosen policy, what it saves a period, today's policy (empty if
+        there is none), costs, service, value of the stock, orders and warnings. `item` is a whole number of the type that
+        the data frame of the masters has, or a text. docs/TABLES.md has all columns.
+        """
         return self.frame
+
+    @cached_property
+    def details(self) -> pd.DataFrame:
+        """Returns all else on the items of `decisions`, in the same rows: laws, crnsim's run beside with its interval,
+        the policy by the item's own history alone, corrections and levels of the planner. docs/TABLES.md has all columns.
+        """
+        with planned_folder(self._folder) as folder:
+            return details_of(folder, folder.answers()).frame
 
     @property
     def controls(self) -> pd.DataFrame:
@@ -286,10 +298,7 @@ class Plan(Result):
         Below 14, order up to 78: cheaper than today's policy (20, 60)
         """
         with planned_folder(self._folder) as folder:
-            item, answer = folder.item(name_of(name))
-            question, program = folder.question(item), str(find_program(self.program))
-            depth = depth_of(question, answer, program)
-            return PlannedItem(ItemWords(depth, folder.every, folder.currency))
+            return PlannedItem(words_on(folder, name_of(name), self.program))
 
     def curve(
         self,
@@ -337,8 +346,8 @@ class Plan(Result):
         )
         return drawn.keep() if self.room else drawn
 
-    @judged("call", "plan")
-    @with_words(TodayWords, Words, Defaults)
+    @judged("call")
+    @taking(Reading, shown=OF_TODAY)
     def orders_today(
         self,
         stock: Table | None = None,
@@ -347,7 +356,7 @@ class Plan(Result):
         *,
         placed: Table | None = None,
         quantities: Table | None = None,
-        **words: Unpack[TodayWords],
+        **words: object,
     ) -> OrdersToday:
         """Returns what to order on a date, what lies too long, and what is owed. Nothing is planned again.
 
@@ -357,9 +366,9 @@ class Plan(Result):
         ----------
         stock : path, DataFrame, or Series or dict by item, optional
             A row for each item, or for each of its places: item, stock, perhaps owed (items), which add up; a stock below 0 is
-            owed. Without it that of the masters counts.
+            owed. With a date the rows of the last day count. Without a table the stock of the masters counts.
         on_order : path, DataFrame, or Series or dict by item, optional
-            What is to come: item, quantity, perhaps due.
+            What is to come: item, quantity (or ordered, received and cancelled), perhaps due and closed.
         date : date or str, optional
             By default today.
         placed : path, DataFrame, or Series or dict by item, optional
@@ -367,6 +376,8 @@ class Plan(Result):
         quantities : path, DataFrame, or Series or dict by item, optional
             What a planner orders that day in place of what the plan says, in whole packs: item, quantity, perhaps reason. 0 leaves
             an order out, and an item that is not due is added.
+        **words
+            Words of reading, as of `Reading`, in place of those of the plan.
 
         Returns
         -------
@@ -391,22 +402,17 @@ class Plan(Result):
             "placed": placed,
             "quantities": quantities,
         }
-        return orders_today(self._folder, tables, words_of(words), date)
+        return orders_today(self._folder, tables, taken(Reading, words), date)
 
-    def plot(self, ax: Axes | None = None) -> Axes:
-        """Draws the greatest savings and losses by item, at most 15, and returns the axes.
-
-        Parameters
-        ----------
-        ax : matplotlib.axes.Axes, optional
-            Where to draw; by default on a new figure.
+    def plot(self) -> Picture:
+        """Draws the greatest savings and losses by item, at most 15.
 
         Raises
         ------
         Refused
             If no item has a policy today.
         """
-        from .show.plots import plot_savings
+        from .show.pictures import savings_picture
 
         with planned_folder(self._folder) as folder:
             savings = {
@@ -418,7 +424,8 @@ class Plan(Result):
                 raise Refused(
                     "no item has a policy today, beside which another could save"
                 )
-            return plot_savings(savings, folder.currency, folder.every, ax)
+            money = f"{folder.currency.code or 'money'} a {folder.every}"
+            return savings_picture(savings, money)
 
     @judged("page", "call")
     def to_excel(self, path: str | Path, orders: OrdersToday | None = None) -> None:

@@ -29,7 +29,7 @@ if TYPE_CHECKING:
 
 Tree = dict[str, Any]
 # What is said of all figures of a scenario.
-BY_ITS_LAWS = "by this law of demand, and this law of lead times; crnplan doubt says what else a history allows"
+BY_ITS_LAWS = "by this law of demand, and this law of lead times; the history allows others, as the page of an item says"
 
 
 @dataclass(frozen=True)
@@ -42,7 +42,8 @@ class Scenario:
         The demand of a period and what customers give back in it, in items, and lead times in periods. `returns` is None if
         nothing comes back; then `version` may be 1.
     costs : Costs
-        In whole numbers. `scale` says what one unit of the money counts that the scenario was made from.
+        In the program's whole numbers, of which `scale` count one unit of the money that the scenario was made from. Figures of
+        all results are in that money; `costs`, `toml` and the text of a report are in the whole numbers.
     policies : tuple of Policy
         The first one is the base.
     initial : int
@@ -200,7 +201,7 @@ class Scenario:
         Returns
         -------
         Scenario
-            `scale` says what one unit of money counts in its `costs`.
+            `scale` says what one unit of money counts in its `costs`. What is computed of it is in money again.
 
         Raises
         ------
@@ -336,6 +337,13 @@ class Scenario:
         from .theory.suggestions import suggestions_of
 
         return suggestions_of(self)
+
+    def money(self, amount: float) -> float:
+        """Returns an amount of the program's whole numbers in the money that the scenario was made from.
+
+        :meta private:
+        """
+        return amount if self.scale == 1 else amount / float(self.scale)
 
     def _with_base(self, policies: Policies) -> Scenario:
         """Returns the scenario with its first policy, if it has one, and then these, each pair of levels once unless it is

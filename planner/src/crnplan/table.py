@@ -10,7 +10,6 @@ import math
 import re
 from abc import ABC, abstractmethod
 from collections.abc import Callable, Collection, Iterable, Iterator, Mapping, Sequence
-from contextvars import ContextVar
 from dataclasses import dataclass, field, replace
 from fractions import Fraction
 from functools import partial
@@ -44,20 +43,9 @@ SHOWN = {"share": ".1%", "orders a period": ".4f"}
 RUN = re.compile(r"[=@\t\r]|[+-](?![0-9.,]*$)")
 
 
-# The signs of a CSV file by its style: between cells, of decimals, and at its beginning. A spreadsheet opens a file in
-# the style of its language, and takes one that begins with a byte order mark for UTF-8.
+# The signs of a CSV file by its style: between cells, of decimals, and at its beginning. A system imports orders in the
+# style of its language, and takes a file that begins with a byte order mark for UTF-8.
 STYLES = {"en": (",", ".", ""), "de": (";", ",", "\ufeff"), "fr": (";", ",", "\ufeff")}
-_style: ContextVar[str] = ContextVar("style", default="en")
-
-
-@contextlib.contextmanager
-def csv_style(name: str) -> Iterator[None]:
-    """Writes tables as CSV in a style of STYLES within the block."""
-    token = _style.set(name)
-    try:
-        yield
-    finally:
-        _style.reset(token)
 
 
 @dataclass(frozen=True)
@@ -300,9 +288,12 @@ class DataTable:
 
     @property
     def lines(self) -> Iterator[str]:
-        """Yields the lines of the table as CSV, by default with commas: see `csv_style`. Rows may be many: they are not
-        kept."""
-        delimiter, decimal, mark = STYLES[_style.get()]
+        """Yields the lines of the table as CSV. Rows may be many: they are not kept."""
+        return self.lines_in("en")
+
+    def lines_in(self, style: str) -> Iterator[str]:
+        """Yields the lines of the table as CSV in a style of STYLES."""
+        delimiter, decimal, mark = STYLES[style]
 
         def line_of(row: Sequence[str]) -> str:
             line = io.StringIO(newline="")

@@ -51,7 +51,7 @@ def test_curves_by_hand() -> None:
 def test_each_method_has_a_line_of_its_own() -> None:
     """No two methods have one style of line, and the page has each."""
     folder = Path(verdicts.__file__).with_name("templates")
-    css = "".join((folder / it).read_text() for it in ("base.css", "backtest.html"))
+    css = "".join((folder / it).read_text() for it in ("plots.css", "backtest.html"))
     styles = [METHOD_WORDS[method.code].style for method in METHODS]
     assert len({*styles}) == len(styles)
     assert all(f".{style} {{" in css for style in styles)

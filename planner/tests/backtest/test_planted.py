@@ -41,7 +41,7 @@ from crnplan.plan.question import question_of
 from crnplan.plan.seasons import Seasons
 from crnplan.read.catalogue_reading import CATALOGUE, READ
 from crnplan.read.item import Item
-from crnplan.read.told import words_of
+from crnplan.read.items import Reading
 from crnplan.remarks import Remark
 from crnplan.store.files import own_folder
 from crnplan.store.means import Means
@@ -231,9 +231,7 @@ def test_price_by_brute_force(tmp_path: Path) -> None:
         sales, masters = tables_of(own)
         masters["class"] = ""
         with own_folder(tmp_path / name, CATALOGUE) as folder:
-            take_tables(
-                folder, sales, masters, None, None, words_of({"every": "week"}), 1
-            )
+            take_tables(folder, sales, masters, None, None, Reading(every="week"), 1)
             records = Records(folder.path / READ, 26, None)
             with contextlib.closing(records), contextlib.closing(
                 Store(folder.store(TESTS), Backtest)
@@ -275,7 +273,7 @@ def test_shares_by_hand(tmp_path: Path) -> None:
     sales, masters = tables_of(items)
     masters["class"] = ["a"] * 20 + ["b"] * 6 + ["c"] * 8
     with own_folder(tmp_path / "past", CATALOGUE) as folder:
-        take_tables(folder, sales, masters, None, None, words_of({"every": "week"}), 1)
+        take_tables(folder, sales, masters, None, None, Reading(every="week"), 1)
         with contextlib.closing(Records(folder.path / READ, 26, None)) as records:
             alike = wanted_shares(records, "items")
             units = wanted_shares(records, "units")
@@ -392,7 +390,7 @@ def test_ways_that_records_do_not_teach(tmp_path: Path) -> None:
     masters["class"] = ""
     own = Settings(fit="empirical", borrow=NONE, every="week")
     with own_folder(tmp_path / "past", CATALOGUE) as folder:
-        words = words_of({"every": "week"})
+        words = Reading(every="week")
         take_tables(folder, sales, masters, None, None, words, 1)
         with contextlib.closing(
             Records(folder.path / READ, 26, None)

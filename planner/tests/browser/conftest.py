@@ -11,13 +11,16 @@ from typing import Any
 import pandas as pd
 import pytest
 
-from crnplan import Plan, plan
-from crnplan.show.catalogue_page import ROWS_A_GROUP, file_of, report
-from crnplan.items import plan_item
+from crnplan import Plan, Policy, plan
+from crnplan.crnsim.periods import Period
+from crnplan.curve.parts import Point
+from crnplan.show.catalogue_page import ROWS_A_GROUP, file_name, file_of, report
+from crnplan.show.curves import exchange_plot
+from crnplan.show.page import Money
+from crnplan.show.pictures import Picture, savings_picture, trajectories_picture
 from planner.tests.browser.browser import Browser
 from planner.tests.catalogue.conftest import SETTINGS
 from planner.tests.conftest import shared
-from planner.tests.item.conftest import furnished
 from planner.tests.show.made_catalogue import Pair, made_folder, made_pair
 
 # Names of items that are markup, a formula, a path, written from the right, or that no line has room for.
@@ -34,11 +37,19 @@ HOSTILE = (
     "long " * 59 + "names",
 )
 PLANNED = (MARKUP, ARABIC, WIDE)
+POINTS = (
+    "today",
+    "chosen item by item",
+    "today's stock, best service (more orders)",
+    "today's service, least stock (fewer orders)",
+    "your budget (more orders) (fewer orders)",
+)
 MASTERS = "item description setup holding backlog fill".split()
 MASTERS += ["lead (weeks)", "s", "S", "stock", "price"]
 MONDAY = datetime.date(2025, 1, 6)
 LARGE = 10**12  # of money
 PAGE = "report.html"
+PART = "spare part"  # the item of the worked case
 Pages = Callable[[str], Path]
 
 
@@ -83,10 +94,11 @@ def pages(
             lambda folder: repeat_rows(page("catalogue of a thousand"), folder, 3),
         ),
         "catalogue with orders": (PAGE, with_orders),
+        "pictures": (PAGE, pictures),
         "planned catalogue": (plan, lambda folder: planned(folder, program())),
         "item": (
-            "plan/summary.html",
-            lambda folder: planned_item(furnished(folder, top, program())),
+            f"plan/items/{file_name(PART)}",
+            lambda folder: planned_item(folder, top / "examples/case", program()),
         ),
     }
     made: dict[str, Path] = {}
@@ -112,6 +124,28 @@ def with_orders(folder: Path) -> None:
     made.report(orders=made.orders_today(stock, late, "2026-11-27"))
 
 
+def pictures(folder: Path) -> None:
+    """Writes a page of pictures as files have them: curves of small and large stocks, savings and losses, and runs."""
+    drawn = []
+    for value in (12_345.0, 1_234_567.0, 9e10):
+        named = {name: Point(value, 0.9, 1.0, 1.0) for name in POINTS}
+        line = [Point(value * it, 1 - 0.3**it, 1.0, 1.0) for it in range(1, 12)]
+        curve = [*named.items(), *(("", point) for point in line)]
+        drawn.append(Picture.of([exchange_plot(curve, Money("EUR", 2))]))
+    savings = {"AB-123456/7890 X": 9e9, "PUMP": -8e9, MARKUP: 1.0, ARABIC: 0.0}
+    drawn.append(savings_picture(savings, "EUR a week"))
+    policies = [Policy("today", 5, 99), Policy("it", 99_000, 100_000)]
+    runs = [
+        [Period(0, 9, 99, 99), Period(9, 3, -9, 5)],
+        [Period(10**5, 9, 0, 10**5)],
+    ]
+    drawn.append(trajectories_picture(policies, runs, 20))
+    texts = "".join(picture.svg for picture in drawn)
+    head = '<!doctype html><html lang="en"><title>Pictures</title>'
+    head += "<style>svg { overflow: visible; }</style>"  # shows what would be cut off
+    (folder / PAGE).write_text(f"{head}<body>{texts}</body></html>", "utf-8")
+
+
 def large_money() -> Pair:
     """Returns an item whose costs and prices are as large as they may be."""
     item, answer = made_pair(random.Random(1), "large")
@@ -134,13 +168,11 @@ def repeat_rows(page: Path, folder: Path, times: int) -> None:
     (folder / page.name).write_text(text, "utf-8")
 
 
-def planned_item(folder: Path) -> None:
-    plan_item(
-        folder / "history.csv",
-        folder / "settings.toml",
-        folder / "plan",
-        program=folder / "program",
-    )
+def planned_item(folder: Path, case: Path, program: Path) -> None:
+    """Plans the worked case, and makes the page of its item."""
+    tables, out = (case / "history.csv", case / "items.csv"), folder / "plan"
+    plan(*tables, out=out, jobs=1, program=program)
+    report(out, [PART], program=program)
 
 
 def planned(folder: Path, program: Path) -> None:

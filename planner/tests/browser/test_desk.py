@@ -47,7 +47,7 @@ def planned(folder: Path, program: Path) -> None:
         for kind, name in (("stock", "stock.csv"), ("on_order", "open.csv")):
             with (folder / name).open("rb") as data:
                 file = desk.add_file(name, data)
-            desk.set_file(file.name, kind, "", True)
+            desk.set_file(file.name, kind, "")
         front.read()
         wait_for(lambda: front.work is None)
         changed = desk.state.changed
@@ -158,7 +158,7 @@ def hostile(folder: Path, program: Path) -> None:
                 csv.writer(file).writerows(rows)
             with path.open("rb") as data:
                 dropped = desk.add_file(f"{MARKUP}{kind}.csv", data)
-            desk.set_file(dropped.name, kind, "", True)
+            desk.set_file(dropped.name, kind, "")
         desk.keep_words({**QUICK, "currency": "EUR"})
         front.read()
         wait_for(lambda: front.work is None)

@@ -215,8 +215,8 @@ def override(walk: Walk, company: str, folder: Path) -> None:
     walk.press("Begin to plan")
     walk.go("result")
     assert REASON in walk.text()
-    decisions = rows_of(next(walk.desk.folder.glob("plans/*/decisions.csv")))
-    assert [decisions[item][it] for it in ("s_override", "S_override")] == ["7", "77"]
+    details = rows_of(next(walk.desk.folder.glob("plans/*/details.csv")))
+    assert [details[item][it] for it in ("s_override", "S_override")] == ["7", "77"]
 
 
 def next_week(walk: Walk, company: str, folder: Path) -> None:

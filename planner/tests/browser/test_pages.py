@@ -1,6 +1,7 @@
 """Tests each page in each form by all rules, its policy of scripts and the table of a catalogue as a reader uses it."""
 from __future__ import annotations
 
+import operator
 import statistics
 from collections.abc import Callable, Iterable
 from pathlib import Path
@@ -44,6 +45,14 @@ def test_page_has_no_fault(
 ) -> None:
     browser.open(pages(name), form)
     assert faults_of(browser, *rules_of(form)) == []
+
+
+def test_pictures_have_no_fault(browser: Browser, pages: Pages) -> None:
+    """No text of a picture meets another one or ends beyond an edge, whatever the amounts."""
+    browser.open(pages("pictures"), Form(776, height=TALL))
+    assert len(browser.driver.find_elements(By.CSS_SELECTOR, "body > svg")) == 5
+    rules = "console", "requests", "names", "overflow", "overlaps", "contrast"
+    assert faults_of(browser, *rules) == []
 
 
 @pytest.mark.parametrize(
@@ -113,8 +122,8 @@ def test_script_of_another_is_refused(
 
 
 SEARCHED = ("item", "description", "class", "warnings")
-COLUMNS = """item description class verdict s_today S_today s_chosen S_chosen cost_today cost_chosen saving by run_saving run_low
-    run_high fill_today fill_chosen value_today value_chosen warnings""".split()
+COLUMNS = """item s_chosen S_chosen saving verdict s_today S_today description class cost_today cost_chosen value_today
+    value_chosen orders_chosen warnings fill_today fill_chosen by""".split()
 # Seconds in which thousands of items are sorted on a quiet machine.
 LONGEST_SORT = 0.3
 MOST_LAYOUTS = 100
@@ -132,8 +141,10 @@ def items(browser: Browser, pages: Pages) -> Items:
 
 @pytest.fixture
 def decisions(pages: Pages) -> list[Row]:
-    """Returns the rows of the file that the page shows."""
-    return rows_of(pages("catalogue of two groups").with_name("decisions.csv"))
+    """Returns the rows of the file that the page shows, with their details."""
+    page = pages("catalogue of two groups")
+    files = (page.with_name(name) for name in ("decisions.csv", "details.csv"))
+    return [*map(operator.or_, *map(rows_of, files))]
 
 
 def by_item(rows: list[Row]) -> dict[str, Row]:

@@ -18,7 +18,8 @@ Week = tuple[int, int]
 @dataclass
 class Audit:
     """What the second program finds: rows read, the rows taken by item, and sums by item and ISO week, without rows whose
-    quantity is empty."""
+    quantity is empty; and the weeks of an item with a row whose quantities can't be read.
+    """
 
     read: int = 0
     taken: Counter[str] = field(default_factory=Counter)
@@ -27,6 +28,9 @@ class Audit:
     )
     back: defaultdict[str, Counter[Week]] = field(
         default_factory=lambda: defaultdict(Counter)
+    )
+    unread: defaultdict[str, set[Week]] = field(
+        default_factory=lambda: defaultdict(set)
     )
 
 
@@ -50,14 +54,12 @@ def audit(path: Path, above: int, first: datetime.date, last: datetime.date) -> 
                 continue
             found.read += 1
             day = day_of(row[2], first, last)
-            if (
-                len(row) == 5
-                and row[1]
-                and day
-                and (row[3] == "" or row[3].isdigit())
-                and row[4].isdigit()
-            ):
-                week = day.isocalendar()[:2]
+            if len(row) != 5 or not row[1] or day is None:
+                continue
+            week = day.isocalendar()[:2]
+            if not (row[3] == "" or row[3].isdigit()) or not row[4].isdigit():
+                found.unread[row[1]].add(week)
+            else:
                 found.taken[row[1]] += 1
                 if row[3]:
                     found.asked[row[1]][week] += int(row[3])

@@ -12,6 +12,7 @@ import pandas as pd
 import crnplan as crn
 from crnplan.demand.learning import Prior
 from planner.tests.backtest.test_catalogue import START
+from planner.tests.planned_tables import whole_frame
 
 ITEMS, BEFORE, WEEKS = 12, 52, 60
 LEVELS = ["s_chosen", "S_chosen"]
@@ -54,7 +55,7 @@ class Month:
     @functools.cached_property
     def earlier(self) -> pd.DataFrame:
         """Returns the decisions of the earlier plan by item."""
-        return of_frame(crn.open_plan(self.before).decisions)
+        return of_frame(whole_frame(crn.open_plan(self.before)))
 
     @functools.cache
     def planned(self, least_gain: float | None = None) -> crn.Plan:

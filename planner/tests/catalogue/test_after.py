@@ -32,10 +32,11 @@ from planner.tests.catalogue.months import (
     of_frame,
 )
 from planner.tests.conftest import Command
+from planner.tests.planned_tables import whole_frame
 from planner.tests.show.page_reader import Page
 from planner.tests.plan.items import item_of
 
-FILES = "decisions.csv", "exact.csv", "changes.csv", "summary.txt", "report.html"
+FILES = "decisions.csv", "details.csv", "changes.csv", "summary.txt", "report.html"
 
 
 def state(folder: Path) -> dict[str, tuple[bytes, int]]:
@@ -53,9 +54,8 @@ def test_nothing_has_changed(month: Month) -> None:
     before = state(month.before)
     again = month.plan(**month.until(BEFORE))
     assert state(month.before) == before
-    pd.testing.assert_frame_equal(
-        again.decisions, crn.open_plan(month.before).decisions
-    )
+    earlier = crn.open_plan(month.before)
+    pd.testing.assert_frame_equal(whole_frame(again), whole_frame(earlier))
     changes = again.changes
     assert (
         set(changes.change) == {"same"}
@@ -109,8 +109,8 @@ def test_unchanged_items_are_not_planned(
 
 def test_levels_are_those_of_both_plans(month: Month) -> None:
     """Without damping, policies are those of a plan that knows of no earlier one, and before stand those of that."""
-    after, alone_now = month.planned().decisions, crn.plan(**month.until(WEEKS))
-    pd.testing.assert_frame_equal(after, alone_now.decisions)
+    after = whole_frame(month.planned())
+    pd.testing.assert_frame_equal(after, whole_frame(crn.plan(**month.until(WEEKS))))
     old, new, changes = month.earlier, of_frame(after), month.changes()
     for table, when in ((old, "before"), (new, "after")):
         names = [f"s_{when}", f"S_{when}", f"mean_{when}"]
@@ -326,7 +326,7 @@ def test_least_gain_that_may_be_either(crnplan: Command) -> None:
     )
     assert (
         answer.status == 2
-        and "--least-gain '2' may be 2% or 2 as a share; write 2% or" in answer.errors
+        and "--least-gain: '2' may be 2% or 2 as a share; write 2% or" in answer.errors
     )
 
 

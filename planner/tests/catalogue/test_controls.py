@@ -23,7 +23,7 @@ from crnplan.read.controls import (
     together,
     tree_of,
 )
-from crnplan.read.items import Words
+from crnplan.read.items import Reading
 from crnplan.read.stock import read_holdings
 from crnplan.catalogues import Catalogue, read_catalogue
 from planner.tests.conftest import Command, rows_of
@@ -80,7 +80,8 @@ def tables(tmp_path: Path, source: pd.DataFrame) -> dict[str, Path]:
 def sums(
     frame: pd.DataFrame, amounts: str = "quantity", dates: str = "date"
 ) -> dict[str, list[Any]]:
-    """Returns rows, units, value and dates of rows of the source by pandas: of all, and by what they are."""
+    """Returns rows, units, value, dates and amounts that are no number, of rows of the source by pandas: of all, and by
+    what they are."""
     units = pd.to_numeric(frame[amounts], errors="coerce")
     days = pd.to_datetime(frame[dates], errors="coerce").dt.strftime("%Y-%m-%d")
     value = units * frame.item.map(PRICES).astype(float)
@@ -89,13 +90,14 @@ def sums(
         known, seen = value[rows].dropna(), days[rows].dropna()
         total = pytest.approx(known.sum()) if len(known) else None
         ends = [seen.min(), seen.max()] if len(seen) else [None, None]
-        found[str(name)] = [len(rows), units[rows].sum(), total, *ends]
+        unread = int(units[rows].isna().sum()) or None
+        found[str(name)] = [len(rows), units[rows].sum(), total, *ends, unread]
     return found
 
 
 def rows_in(controls: pd.DataFrame, file: str) -> dict[str, list[Any]]:
     """Returns rows, units, value and dates of a file, by what its rows are; None for no figure."""
-    names = ["rows", "units", "value", "first", "last"]
+    names = ["rows", "units", "value", "first", "last", "unread"]
     table = controls[controls.file == file].set_index("rows_are")[names].astype(object)
     return table.where(table.notna(), None).T.to_dict("list")
 
@@ -107,7 +109,7 @@ def test_controls_of_a_catalogue(
     tmp_path: Path, tables: dict[str, Path], source: pd.DataFrame, sizes: Sizes
 ) -> None:
     """What was read and what became of it is what pandas sums in the source, in one part or in several."""
-    words = Words(today=TODAY, where=("Location=Main",))
+    words = Reading(today=TODAY, where=("Location=Main",))
     catalogue = Catalogue(read_alone(tmp_path / "read", tables, words, 1, sizes))
     controls = catalogue.controls
     for place in range(2):
@@ -116,14 +118,14 @@ def test_controls_of_a_catalogue(
     assert rows_in(controls, "demand, all files") == sums(source)
     used = pytest.approx(12 * 2.5 + 7.5 * 0.3)
     assert rows_in(controls, "items.csv") == {
-        "read": [3, 28.5, pytest.approx(12 * 2.5 + 7.5 * 0.3 + 900), None, None],
-        USED: [2, 19.5, used, None, None],
-        LEFT_OUT: [1, 9, 900, None, None],
+        "read": [3, 28.5, pytest.approx(12 * 2.5 + 7.5 * 0.3 + 900), *[None] * 3],
+        USED: [2, 19.5, used, None, None, None],
+        LEFT_OUT: [1, 9, 900, None, None, None],
     }
     assert rows_in(controls, "orders.csv") == {
-        "read": [2, None, None, "2026-02-02", "2026-03-02"],
-        USED: [1, None, None, "2026-02-02", "2026-02-02"],
-        REJECTED: [1, None, None, "2026-03-02", "2026-03-02"],
+        "read": [2, None, None, "2026-02-02", "2026-03-02", None],
+        USED: [1, None, None, "2026-02-02", "2026-02-02", None],
+        REJECTED: [1, None, None, "2026-03-02", "2026-03-02", None],
     }
     counts = dict(catalogue.counts["files"]["demand"])
     names = "read", "blank", "used", "rejected", "with_item", "other"
@@ -167,10 +169,10 @@ def test_sums_are_exact() -> None:
     """Sums of parts are exact, are kept as such, and no rows come to nothing."""
     value, days = 10**20 + Fraction(1, 7), (date(2026, 1, 2), date(2026, 1, 3))
     key = "demand", "a", USED
-    third = Control(1, {"quantity": Fraction(1, 3)}, value, *days)
+    third = Control(1, {"quantity": Fraction(1, 3)}, value, *days, 2)
     controls: Controls = {key: third}
     whole = together([controls, controls, controls, {key: Control()}])
-    assert whole[key] == Control(3, {"quantity": Fraction(1)}, 3 * value, *days)
+    assert whole[key] == Control(3, {"quantity": Fraction(1)}, 3 * value, *days, 6)
     assert controls_in(tree_of(whole)) == whole
     empty = controls_of({key: Control()}, 2, "").rows
     assert [row[:4] for row in empty] == [["a", "read", 0, None], ["a", USED, 0, None]]
@@ -192,7 +194,7 @@ def test_controls_are_said(
     answer = crnplan("catalogue", "demand-*.csv", "items.csv", *words, program)
     assert answer.status == 0, answer
     lines = [line.split() for line in answer.output.splitlines()]
-    heading = ["file", "rows_are", "rows", "units", "value", "first", "last"]
+    heading = ["file", "rows_are", "rows", "units", "value", "first", "last", "unread"]
     count, units, *_ = sums(source)["read"]
     total = ["demand,", "all", "files", "read", str(count), f"{units:,.15g}"]
     assert heading in lines and total in [line[:6] for line in lines]
@@ -226,17 +228,17 @@ def test_controls_of_today(tmp_path: Path) -> None:
     for kind, frame in frames.items():
         frame.drop(columns="rows_are").to_csv(tmp_path / f"{kind}.csv", index=False)
     tables = {kind: tmp_path / f"{kind}.csv" for kind in frames}
-    read = read_holdings(tables, Words(), {**PRICES, "C": None})
+    read = read_holdings(tables, Reading(), {**PRICES, "C": None})
     controls = controls_of(read.controls, 2, "EUR").frame
     on_order = sums(frames["on_order"], dates="due")
     assert rows_in(controls, "on_order.csv") == {
         **on_order,
-        REJECTED: [1, 6, 1.8, None, None],
+        REJECTED: [1, 6, 1.8, None, None, None],
     }
     undated = frames["stock"].assign(date="")
     found, wanted = rows_in(controls, "stock.csv"), sums(undated, "stock")
     # A row without an amount is worth nothing.
-    wanted[REJECTED] = [1, 0, 0, None, None]
+    wanted[REJECTED] = [1, 0, 0, None, None, 1]
     assert found == wanted
     assert controls.owed[controls.file == "stock.csv"].tolist() == [3, 1, 0, 2]
 

@@ -26,7 +26,8 @@ from crnplan.plan.correction import cost_trial_of
 from crnplan.plan.how import NONE, Settings
 from crnplan.plan.question import question_of
 from crnplan.read.item import Item
-from planner.tests.conftest import Command, rows_of
+from planner.tests.conftest import Command
+from planner.tests.planned_tables import whole_frame, whole_rows
 from planner.tests.show.page_reader import Page
 from planner.tests.plan.items import SHORT
 
@@ -35,7 +36,7 @@ WANTED = {0: "0.95", 1: "0.95", 2: "0.9", 3: ""}
 SETTINGS: dict[str, Any] = {"fit": "empirical", "borrow": NONE, "jobs": 1, **SHORT}
 OWN = Settings(fit="empirical", borrow=NONE)
 WORDS = "--fit", "empirical", "--borrow", "none"
-FILES = "decisions.csv", "summary.txt", "report.html"
+FILES = "decisions.csv", "details.csv", "summary.txt", "report.html"
 
 
 def write(folder: Path, items: int = ITEMS) -> list[Path]:
@@ -125,7 +126,7 @@ def test_plans_aim_by_the_past(made: Path, program: Path) -> None:
 
 def test_what_is_said(room: Path) -> None:
     """The table, the summary and the page say where plans aim, from how many items and periods, and its price."""
-    rows = rows_of(room / "plan/decisions.csv").values()
+    rows = whole_rows(room / "plan").values()
     corrected = [row for row in rows if row["fill_aimed"]]
     assert len(corrected) == sum(row["fill_wanted"] != "" for row in rows) < len(rows)
     held, plain = (
@@ -159,7 +160,7 @@ def test_what_is_said(room: Path) -> None:
 
 def test_promised_is_what_was_met_on_the_past(room: Path) -> None:
     """The aim of theory is none of the promise: the first screen of the page says both, and so does an item."""
-    rows = rows_of(room / "plan/decisions.csv").values()
+    rows = whole_rows(room / "plan").values()
     corrected = [row for row in rows if row["fill_aimed"]]
     page = Page(room / "plan/report.html").words
     met = np.mean([float(row["fill_promised"]) for row in corrected])
@@ -171,7 +172,7 @@ def test_promised_is_what_was_met_on_the_past(room: Path) -> None:
     assert answer.correction
     said_of_item = f"It promises {answer.correction.met:.1%}, which such plans met"
     text = crn.open_plan(room / "plan").item("I-00").text
-    assert said_of_item in " ".join(text.split()) and len(text.splitlines()) <= 24
+    assert said_of_item in " ".join(text.split())
 
 
 def plan_again(room: Path, out: str) -> list[Any]:
@@ -205,7 +206,7 @@ def test_learned_again_on_request(room: Path, crnplan: Command, program: Path) -
     assert " 1 items planned" in told.errors and aims_in(room) == before
     told = crnplan(*words, "--learn-again")
     assert f" {COUNT} items planned" in told.errors and aims_in(room) != before
-    rows = rows_of(room / "plan/decisions.csv").values()
+    rows = whole_rows(room / "plan").values()
     wanted = sum(bool(row["fill_wanted"]) for row in rows)
     said = f"{wanted - 1} of {wanted} trials ({wanted - 1} kept)"
     assert said in told.errors
@@ -227,7 +228,7 @@ def test_a_kind_with_few_items_is_left_as_it_is(made: Path) -> None:
     summary = (made / "plan/summary.txt").read_text("utf-8")
     said = "costs are promised by theory alone: 11 items with a backlog cost can be tried on their past, and that needs 30"
     assert said in summary and "costs promised by" not in summary
-    rows = rows_of(made / "plan/decisions.csv").values()
+    rows = whole_rows(made / "plan").values()
     assert {row["cost_promised"] for row in rows} == {""}
 
 
@@ -246,7 +247,6 @@ def check_said(
     text = planned.item(costed.name).text
     times = overruns.of_item(costed.counts).times
     assert f"such plans cost {times:.2f} times what theory" in " ".join(text.split())
-    assert len(text.splitlines()) <= 24
 
 
 @pytest.mark.parametrize("fills", [True, False])
@@ -267,7 +267,7 @@ def test_costs_are_promised_by_the_past(
     trials = [cost_trial_of(item, OWN, Prior(NONE)) for item in costed]
     assert settings.overruns == Overruns.of(trials) and len(trials) == 30
     assert (settings.aims is not None) is fills
-    rows, sums = planned.decisions.set_index("item"), [0.0, 0.0]
+    rows, sums = whole_frame(planned).set_index("item"), [0.0, 0.0]
     for item, answer in answers.values():
         row = rows.loc[item.name]
         if item.backlog is None:

@@ -34,6 +34,7 @@ from crnplan.words import advice, sentence
 from planner.tests.catalogue.conftest import FILES, REFUSED, SETTINGS, leave_few
 from planner.tests.catalogue.made import NO_PLAN, TODAY, Made
 from planner.tests.conftest import Command, shared
+from planner.tests.planned_tables import whole_table
 
 TABLES = (CURVE, POLICIES, LEFT_OUT)
 ITEMS = 20
@@ -102,7 +103,7 @@ def test_points_are_known_without_a_curve(twenty: Path) -> None:
 def test_named_points(twenty: Path) -> None:
     """Has today's point of decisions.csv, and points that are as good with less stock, or better with the same. An item
     without a policy today counts there with the chosen one."""
-    table = pd.read_csv(twenty / "decisions.csv").set_index("item").drop([*NO_PRICE])
+    table = whole_table(twenty).drop([*NO_PRICE])
     assert [*table.index[table.s_today.isna()]] == [NO_TODAY]
     asked = table.value_chosen / table.stock_chosen * table.demand
     curve = pd.read_csv(twenty / CURVE).set_index("point")

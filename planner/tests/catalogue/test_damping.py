@@ -66,7 +66,7 @@ def test_damping_rule(
     damped = changes.index[changes.change == "damped"]
     said = f"gains less than {100 * least:g}%: {len(damped)}, which costs {given_up:.2f} a week"
     assert said in month.planned(least).text
-    codes = of_frame(month.planned(least).decisions).codes
+    codes = of_frame(month.planned(least).details).codes
     assert {*codes.index[codes.str.contains("damped")]} == {*damped}
 
 

@@ -16,9 +16,10 @@ from crnplan.plan.catalogue import planned_folder
 from crnplan.plan.learned import FOLLOWING
 from planner.tests.conftest import Command
 from planner.tests.plan.items import SHORT, item_of, tables_of
+from planner.tests.planned_tables import whole_table
 
 ITEMS, WEEKS = 24, 80
-FILES = "decisions.csv", "exact.csv", "summary.txt", "report.html"
+FILES = "decisions.csv", "details.csv", "summary.txt", "report.html"
 WORDS: dict[str, Any] = {"every": "week", "jobs": 1, "borrow": "none", **SHORT}
 
 
@@ -48,13 +49,9 @@ def room(tmp_path_factory: pytest.TempPathFactory, program: Path) -> Path:
     return folder
 
 
-def decisions(folder: Path) -> pd.DataFrame:
-    return pd.read_csv(folder / "decisions.csv", index_col="item")
-
-
 def test_plans_at_the_level(room: Path) -> None:
     """Items of the class that moves have laws of as many times their mean, and say so; the others are as they were."""
-    plan, mean = decisions(room / "plan"), decisions(room / "mean")
+    plan, mean = whole_table(room / "plan"), whole_table(room / "mean")
     moved = plan["class"] == "b"
     pd.testing.assert_frame_equal(plan[~moved], mean[~moved])
     weight = weight_of([Moves.of(counts) for counts in COUNTS[1::2]])
@@ -96,7 +93,7 @@ def test_what_is_kept(room: Path, tmp_path: Path, program: Path) -> None:
     folder = Path(shutil.copytree(room / "plan", tmp_path / "plan"))
     demand = pd.read_csv(room / "demand.csv")
     sales = tmp_path / "demand.csv"
-    moved = decisions(folder).query("`class` == 'b'").index
+    moved = whole_table(folder).query("`class` == 'b'").index
     demand[~demand["item"].isin(moved)].to_csv(sales, index=False)
     words = {**WORDS, "program": program, "out": folder, "follow": "auto"}
     with planned_folder(folder) as planned:

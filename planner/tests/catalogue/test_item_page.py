@@ -21,12 +21,12 @@ from crnplan.read.catalogue_reading import READ
 from planner.tests.catalogue.conftest import FILES
 from planner.tests.catalogue.made import IDLE, NO_PLAN, TODAY, made, teaching
 from planner.tests.conftest import rows_of, script, shared
+from planner.tests.planned_tables import runs_of, whole_rows
 from planner.tests.show.page_reader import Page
 
-PAIRS = "Today's and the chosen policy, as in decisions.csv"
-EXACT = "The run's exact figures, as in exact.csv"
+PAIRS = "Today's and the chosen policy, as in decisions.csv and details.csv"
 ALL = "All policies in the long run"
-# The rows of the table of both policies, and the columns of decisions.csv without the policy's name.
+# The rows of the table of both policies, and the columns of both tables without the policy's name.
 COLUMNS = {
     "s": "s",
     "S": "S",
@@ -95,7 +95,9 @@ def pages(folder: Path, names: list[str], program: Path) -> dict[str, Page]:
 
 def test_figures_are_those_of_the_tables(folder: Path, pages: dict[str, Page]) -> None:
     """All figures of the tables are there to the digit. A cost by crnsim is in the middle of its interval."""
-    decisions, exact = rows_of(folder / "decisions.csv"), rows_of(folder / "exact.csv")
+    decisions, runs = whole_rows(folder), runs_of(folder)
+    # No run of one item stands for a plan of several.
+    assert not (folder / "scenario.toml").exists()
     for name, page in pages.items():
         row, shown, words = (
             decisions[name],
@@ -108,11 +110,16 @@ def test_figures_are_those_of_the_tables(folder: Path, pages: dict[str, Page]) -
         ]
         wanted += [[words, "", row[it] or "-"] for words, it in SAVINGS.items()]
         assert page.tables[PAIRS][1:] == wanted
-        assert page.tables[EXACT][1:] == [[*it] for it in exact[name].items()]
+        beside = file_of(folder, name).with_suffix(".toml").read_text("utf-8")
+        assert "".join(page.parts["scenario"]) == beside
+        report = [line.split(",") for line in "".join(page.parts["report"]).split()]
+        totals = {cells[0]: cells[3] for cells in report}
+        for policy in ("today", "chosen"):
+            total = getattr(runs[name][1], f"total_{policy}")
+            assert totals.get(policy, totals["today"]) == str(total)
         version = 2 if name == "A-006" else 1  # This item alone has returns.
-        assert (
-            f"Key {exact[name]['key']}; scenario of version {version}. " in page.words
-        )
+        key = runs[name][1].key
+        assert f"Key {key}; scenario of version {version}. " in page.words
         assert f"Written by crnplan {crnplan.__version__}." in page.words
         assert f"Below {row['s_chosen']} order up to {row['S_chosen']}: " in words
         for policy in ("today", "chosen") if row["verdict"] != "same" else ("today",):
@@ -227,7 +234,7 @@ def learned(tmp_path_factory: pytest.TempPathFactory, program: Path) -> Path:
 
 def test_learned_law_stands_beside_the_items_own(learned: Path, program: Path) -> None:
     """The page names the learned law, and has that of the item alone in table and picture."""
-    rows = rows_of(learned / "decisions.csv")
+    rows = whole_rows(learned)
     name = next(
         it
         for it, row in rows.items()

@@ -16,6 +16,7 @@ import pytest
 
 import crnplan as crn
 from crnplan.theory.lattice import theories_of
+from planner.tests.planned_tables import whole_frame
 
 START, WEEKS = datetime.date(2024, 12, 2), 60  # a Monday
 SETTINGS: dict[str, Any] = {"periods": 48, "replications": 6, "least": 13, "jobs": 1}
@@ -25,7 +26,7 @@ MONEY += "run_high value_today value_chosen cost_confidence cost_alone".split()
 ITEMS = "s_today S_today s_chosen S_chosen".split()
 ITEMS += "stock_today stock_chosen s_alone S_alone demand".split()
 SHARES = "fill_wanted fill_today fill_chosen fill_alone".split()
-SHARES += "orders_today orders_chosen law_share log10_bayes".split()
+SHARES += "orders_today orders_chosen".split()
 Master = dict[str, Any]
 Planner = Callable[..., pd.DataFrame]
 
@@ -181,7 +182,7 @@ def planned(program: Path) -> Planner:
             **SETTINGS | words,
         )
         assert len(found.decisions) == len(items), found.rejects
-        return found.decisions
+        return whole_frame(found)
 
     return plan
 

@@ -15,10 +15,10 @@ from fractions import Fraction
 from pathlib import Path
 from typing import Any
 
-import pandas as pd
 import pytest
 
 import crnplan as crn
+from crnplan.plan.answer import Run
 from crnplan.plan.how import Settings
 from crnplan.plan.question import Question
 from planner.tests.catalogue.audit import Audit, audit
@@ -41,6 +41,7 @@ from planner.tests.catalogue.made import (
     teaching,
 )
 from planner.tests.conftest import Answer, Command, heavy_of, rows_of
+from planner.tests.planned_tables import runs_of, whole_rows, whole_table
 
 SCENARIO = """version = 1
 key = {keys}
@@ -70,7 +71,7 @@ def masters(files: Path) -> Rows:
 
 @pytest.fixture(scope="module")
 def table(planned: Path) -> Rows:
-    return rows_of(planned / "decisions.csv")
+    return whole_rows(planned)
 
 
 @pytest.fixture(scope="module")
@@ -89,10 +90,13 @@ def amount(text: str) -> Fraction:
     return Fraction(text.replace(",", ".") or 0)
 
 
-def ran(program: Path, row: Row, lead: str, counts: Counter[int]) -> tuple[Row, Row]:
+def ran(
+    program: Path, levels: Row, run: Run, lead: str, counts: Counter[int]
+) -> tuple[Row, Row]:
     """Returns what the program says of today's and the chosen policy of an item."""
     law = {"values": sorted(counts), "weights": [counts[it] for it in sorted(counts)]}
-    text = SCENARIO.format(**row, **law, lead=lead, keys=json.dumps(row["key"].split()))
+    keys = json.dumps(run.key.split())
+    text = SCENARIO.format(**vars(run) | levels | law, lead=lead, keys=keys)
     done = subprocess.run(
         [program], input=text.encode(), capture_output=True, check=True
     )
@@ -101,9 +105,11 @@ def ran(program: Path, row: Row, lead: str, counts: Counter[int]) -> tuple[Row, 
 
 
 def counts_by(sums: Audit, name: str) -> Counter[int]:
-    """Returns how many weeks of an item have each demand, by the second program."""
-    weeks = +sums.asked[name]
-    return Counter({0: WEEKS - len(weeks)}) + Counter(weeks.values())
+    """Returns how many weeks of an item have each demand that is known, by the second program."""
+    unread = sums.unread[name]
+    weeks = {week: count for week, count in sums.asked[name].items() if count}
+    known = [count for week, count in weeks.items() if week not in unread]
+    return Counter({0: WEEKS - len({*weeks} | unread)}) + Counter(known)
 
 
 def test_figures_are_the_programs(
@@ -112,25 +118,24 @@ def test_figures_are_the_programs(
     """Has the program's figures of a scenario of the second program's sums, and the masters' rates."""
     last, tested = START + datetime.timedelta(days=7 * WEEKS), 0
     sums = audit(files / FILES[0], len(TITLES) + 1, START, last)
-    for name, row in rows_of(planned / "exact.csv").items():
-        scale = Fraction(row["units_of_money"])
+    table = rows_of(planned / "decisions.csv")
+    for name, (item, run) in runs_of(planned).items():
         for rate, column in RATES.items():
-            wanted = amount(masters[name][column]) * scale
-            assert abs(int(row[rate]) - wanted) <= Fraction(1, 2)
+            wanted = amount(masters[name][column]) * run.scale
+            assert abs(getattr(run, rate) - wanted) <= Fraction(1, 2)
         digest = hashlib.sha256(f"crnplan\n{name}".encode()).hexdigest()
-        assert row["key"].replace(" ", "") == digest
+        assert run.key.replace(" ", "") == digest
+        row = table[name]
         lead, back = masters[name]["Lieferzeit (Wochen)"], sums.back[name].total()
         is_same = row["s_today"] == row["s_chosen"]
         if not lead.isdigit() or name == "A-007" or back or is_same:
             continue
-        today, chosen = ran(program, row, lead, counts_by(sums, name))
-        assert today["total"] == row["total_today"]
-        assert chosen["total"] == row["total_chosen"]
-        assert Fraction(chosen["per_period"]) == Fraction(row["cost_chosen"]) * scale
-        scale *= int(row["periods"])
-        assert -Fraction(chosen["diff_mean"]) == Fraction(row["saving"]) * scale
-        variance = Fraction(row["saving_variance"]) * scale**2
-        assert Fraction(chosen["diff_var"]) == variance
+        assert item.box == 1
+        today, chosen = ran(program, row, run, lead, counts_by(sums, name))
+        totals = [int(row["total"]) for row in (today, chosen)]
+        assert totals == [run.total_today, run.total_chosen]
+        assert Fraction(chosen["diff_mean"]) == run.difference
+        assert Fraction(chosen["diff_var"]) == run.variance
         tested += 1
     assert tested > 15
 
@@ -175,7 +180,7 @@ def check_row(row: Row) -> None:
 
 def test_summary_adds_up(planned: Path, bad: set[str]) -> None:
     """Has the sums of savings, the runs' with the root of the sum of squares as its interval, as the page has."""
-    table = pd.read_csv(planned / "decisions.csv")
+    table = whole_table(planned)
     text = (planned / "summary.txt").read_text("utf-8")
     said = "laws fitted to the histories, if the coming year is like the last one."
     assert said in text and "LOST" not in text
@@ -247,7 +252,7 @@ def planned_now(told: Answer) -> int:
 
 
 def decisions(folder: Path) -> Rows:
-    return rows_of(folder / "plan/decisions.csv")
+    return whole_rows(folder / "plan")
 
 
 @pytest.fixture

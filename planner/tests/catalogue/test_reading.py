@@ -19,7 +19,7 @@ from crnplan.read.blocks import Sizes
 from crnplan.read.catalogue_reading import read_alone
 from crnplan.read.dates import period_of
 from crnplan.read.item import Item
-from crnplan.read.items import Words
+from crnplan.read.items import Reading
 from crnplan.read.tables import OPEN, PLACES, USED, States, TableReader
 from crnplan.catalogues import Catalogue, read_catalogue
 from crnplan.words import sentence
@@ -191,7 +191,7 @@ def test_ranges_change_nothing(
         kind: files / name for kind, name in zip(("demand", "items", "orders"), FILES)
     }
     sizes = Sizes(10_000, 20_000, plain=0)
-    again = Catalogue(read_alone(tmp_path, paths, Words(today=TODAY), 2, sizes))
+    again = Catalogue(read_alone(tmp_path, paths, Reading(today=TODAY), 2, sizes))
     assert again.counts == catalogue.counts and items_of(again) == items
     pd.testing.assert_frame_equal(again.rejects, catalogue.rejects)
     assert {*tmp_path.rglob("*")} == {tmp_path / MARKER, again.path.parent, again.path}

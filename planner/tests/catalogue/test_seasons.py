@@ -16,14 +16,15 @@ from crnplan.plan.catalogue import planned_folder
 from crnplan.plan import swings
 from crnplan.plan.learned import PRIOR_WINDOW, SEASONS
 from crnplan.show.verdicts import VERDICTS
-from planner.tests.conftest import Command, rows_of
+from planner.tests.conftest import Command
 from planner.tests.plan.items import SHORT
+from planner.tests.planned_tables import whole_frame, whole_rows, whole_table
 from planner.tests.show.page_reader import Page
 
 ITEMS, WEEKS, START = 11, 110, datetime.date(2022, 1, 3)
 END = "2024-02-11"  # the last Sunday of the record
-DECIDED = "Today's and the chosen policy, as in decisions.csv"
-FILES = "decisions.csv", "exact.csv", "levels.csv", "summary.txt", "report.html"
+DECIDED = "Today's and the chosen policy, as in decisions.csv and details.csv"
+FILES = "decisions.csv", "details.csv", "levels.csv", "summary.txt", "report.html"
 WORDS: dict[str, Any] = {"every": "week", "end": END, "jobs": 1, **SHORT}
 
 
@@ -60,14 +61,10 @@ def room(tmp_path_factory: pytest.TempPathFactory, program: Path) -> Path:
     return folder
 
 
-def decisions(folder: Path) -> pd.DataFrame:
-    return pd.read_csv(folder / "decisions.csv", index_col="item")
-
-
 def test_levels_by_month(room: Path) -> None:
     """Items of the class with a season have levels for each day of a year, of which those of now are their decision; the
     others have the same plan as without seasons."""
-    plan, flat = decisions(room / "plan"), decisions(room / "flat")
+    plan, flat = whole_table(room / "plan"), whole_table(room / "flat")
     levels = crn.open_plan(room / "plan").levels
     table = pd.read_csv(room / "plan/levels.csv", parse_dates=["from", "to"])
     assert levels.to_csv(index=False) == (room / "plan/levels.csv").read_text()
@@ -107,7 +104,7 @@ def test_what_would_change_the_answer(
 
 def test_what_is_said(room: Path) -> None:
     """A plan by a season says so in place of the warning of one, which a plan without it has."""
-    plan, flat = decisions(room / "plan"), decisions(room / "flat")
+    plan, flat = whole_table(room / "plan"), whole_table(room / "flat")
     warm = plan.index.str.startswith("warm")
     assert plan.loc[warm, "codes"].str.contains("season planned").all()
     assert "by 2 years of its class: 1." in plan.loc["warm-21", "warnings"]
@@ -177,12 +174,12 @@ def test_promotions_of_rows(room: Path, tmp_path: Path, program: Path) -> None:
         with planned_folder(tmp_path / name) as planned:
             assert planned.settings.seasons and not planned.settings.seasons.promoted
             indices.append(planned.settings.seasons.classes.get("warm"))
-    for name in ("decisions.csv", "levels.csv"):
+    for name in ("decisions.csv", "details.csv", "levels.csv"):
         plain = (room / "plan" / name).read_bytes()
         assert (tmp_path / "none" / name).read_bytes() == plain
         assert (tmp_path / "marked" / name).read_bytes() != plain
     assert 'promotion = "promo"' in (tmp_path / "marked/found.toml").read_text()
-    codes = decisions(tmp_path / "marked").codes
+    codes = whole_table(tmp_path / "marked").codes
     assert (
         codes[codes.str.contains("promoted", na=False)]
         .index.str.startswith("warm")
@@ -222,7 +219,7 @@ def test_levels_of_a_planner(room: Path, tmp_path: Path, program: Path) -> None:
     assert {*plan.levels["item"]} == {
         name for name in plan.decisions["item"] if "warm" in name
     } - {"warm-21"}
-    row = plan.decisions.set_index("item").loc["warm-21"]
+    row = whole_frame(plan).set_index("item").loc["warm-21"]
     assert (row["s_override"], row["S_override"]) == (5, 99) and row["fill_override"]
 
 
@@ -275,7 +272,7 @@ def test_curve(room: Path, tmp_path: Path, program: Path) -> None:
 
 
 def test_page_of_an_item(room: Path, tmp_path: Path, program: Path) -> None:
-    """The page of an item has its demand as it was, the verdict, costs and service of the year that decisions.csv has, and
+    """The page of an item has its demand as it was, the verdict, costs and service of the year that the tables have, and
     other policies as of the first month."""
     folder = Path(shutil.copytree(room / "plan", tmp_path / "plan"))
     item = crn.open_plan(folder, program=program).item("warm-21")
@@ -289,7 +286,7 @@ def test_page_of_an_item(room: Path, tmp_path: Path, program: Path) -> None:
     (path,) = (folder / "items").glob("*.html")
     page, table = path.read_text(), Page(path).tables
     assert "Levels of the coming year, above the demand of the last one" in page
-    row = rows_of(room / "plan/decisions.csv")["warm-21"]
+    row = whole_rows(room / "plan")["warm-21"]
     both = {name: cells for name, *cells in table[DECIDED][1:]}
     for name, column in (("cost a week", "cost"), ("met at once", "fill")):
         assert both[name] == [row[f"{column}_today"], row[f"{column}_chosen"]]

@@ -78,15 +78,14 @@ def test_figures_are_those_of_a_chain(what: str, tenths: int) -> None:
     """Today's and the kept policy cost and serve as a Markov chain says, and the best one costs least of all."""
     item = item_of(
         counts=COUNTS,
-        leads=LEADS,
+        leads=5 * LEADS,  # so many that they are taken as they are
         levels=NOW,
         setup=Fraction(20),
         holding=Fraction(1, 2),
         backlog=Fraction(9),
     )
-    row = swing_of(
-        question_of(item, alone(fit="empirical", lead_fit="empirical")), CHOSEN
-    ).rows[CASES.index((what, tenths))]
+    question = question_of(item, alone(fit="empirical"))
+    row = swing_of(question, CHOSEN).rows[CASES.index((what, tenths))]
     times = Fraction(tenths, 10)
     costs = {
         name: round(MONEY * cost * (float(times) if name == what else 1))

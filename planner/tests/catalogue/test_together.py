@@ -23,6 +23,7 @@ from crnplan.plan.offers import Asked, offer_of
 from planner.tests.catalogue.conftest import TABLES
 from planner.tests.conftest import Command, cases_beside
 from planner.tests.plan.items import SHORT, item_of, tables_of
+from planner.tests.planned_tables import whole_frame
 
 REFUSED = cases_beside(__file__)["refused"]
 SETTINGS: dict[str, Any] = {"fit": "empirical", "borrow": NONE, "jobs": 1, **SHORT}
@@ -51,7 +52,7 @@ def planned(program: Path, unpriced: int = 0, **words: Any) -> crn.Plan:
 @pytest.fixture(scope="module")
 def alone(program: Path) -> pd.DataFrame:
     """Returns the decisions of items that are planned one by one."""
-    return planned(program).decisions.set_index("item")
+    return whole_frame(planned(program)).set_index("item")
 
 
 @pytest.fixture(scope="module")
@@ -61,7 +62,7 @@ def together(program: Path) -> crn.Plan:
 
 def met(plan: crn.Plan, weigh: str = "value", group: str = "") -> float:
     """Returns the share of demand that the items of a class with a wanted share meet together, by their decisions."""
-    rows = plan.decisions[lambda row: row.fill_together.notna()]
+    rows = whole_frame(plan)[lambda row: row.fill_together.notna()]
     rows = rows[rows["class"].isin([group] if group else [*"ab"])]
     weights = rows.demand
     if weigh == "value":
@@ -79,7 +80,7 @@ def test_items_that_are_hardly_met(program: Path, together: crn.Plan) -> None:
     """The summary and the page count the items that meet less than half of what is wanted of all together."""
     wanted, words = 0.6, "Less than half of the share that is wanted of all together"
     plan = planned(program, together=wanted)
-    fills = plan.decisions[lambda row: row.fill_together.notna()].fill_chosen
+    fills = whole_frame(plan)[lambda row: row.fill_together.notna()].fill_chosen
     few = int((fills < wanted / 2).sum())
     assert few
     for name in ("summary.txt", "report.html"):
@@ -93,7 +94,7 @@ def test_wanted_share_is_met(together: crn.Plan, alone: pd.DataFrame) -> None:
     (price,) = groups_of(together).values()
     assert WANTED <= met(together) == pytest.approx(price.promised, abs=1e-9)
     assert price.promised < WANTED + 0.01 and price.items == COUNT - BACKLOG
-    own = together.decisions.set_index("item")
+    own = whole_frame(together).set_index("item")
     names = own.index[own.fill_together.isna()]
     assert len(names) == BACKLOG
     pd.testing.assert_frame_equal(own.loc[names], alone.loc[names])
@@ -123,10 +124,10 @@ def test_classes(program: Path, alone: pd.DataFrame) -> None:
     prices = groups_of(both)
     assert prices.keys() == {"a", ""} and prices["a"].price > prices[""].price
     assert 0.95 <= met(both, group="a") < 0.96 and 0.85 <= met(both, group="b") < 0.88
-    one = planned(program, together={"a": 0.95}).decisions.set_index("item")
+    one = whole_frame(planned(program, together={"a": 0.95})).set_index("item")
     others = one["class"] != "a"
     pd.testing.assert_frame_equal(one[others], alone[others])
-    own = both.decisions.set_index("item")
+    own = whole_frame(both).set_index("item")
     pd.testing.assert_frame_equal(one[~others], own[~others])
 
 
@@ -135,14 +136,14 @@ def test_weighed_by_units(program: Path, together: crn.Plan) -> None:
     units = planned(program, 9, together=WANTED, weigh="units")
     assert WANTED <= met(units, "units") < WANTED + 0.01
     assert abs(met(together, "units") - WANTED) > 0.01
-    assert len(units.decisions.fill_together.dropna()) == COUNT - BACKLOG
+    assert len(units.details.fill_together.dropna()) == COUNT - BACKLOG
 
 
 def test_floor(program: Path, together: crn.Plan) -> None:
     """No item meets less, those that would have the cheapest policy with it, and others need meet less for that."""
     least = 0.88
     floored = planned(program, together=WANTED, at_least=least)
-    rows, before = (plan.decisions.set_index("item") for plan in (floored, together))
+    rows, before = (whole_frame(plan).set_index("item") for plan in (floored, together))
     own = rows.fill_together.notna()
     assert rows[own].fill_chosen.min() >= least > before[own].fill_chosen.min()
     assert WANTED <= met(floored) < WANTED + 0.01
@@ -161,7 +162,7 @@ def test_floor(program: Path, together: crn.Plan) -> None:
 def test_items_without_a_price(program: Path, alone: pd.DataFrame) -> None:
     """They are planned by their own fill rates, and that is said of each and of all."""
     plan = planned(program, 3, together=WANTED)
-    own = plan.decisions.set_index("item")
+    own = whole_frame(plan).set_index("item")
     left = own.index[:3]
     same = ["s_chosen", "S_chosen", "cost_chosen", "fill_wanted"]
     pd.testing.assert_frame_equal(own.loc[left, same], alone.loc[left, same])
@@ -304,7 +305,7 @@ def test_verdicts(program: Path) -> None:
     sales, masters = made()
     masters["s"], masters["S"] = 1, 3
     plan = crn.plan(sales, masters, together=0.95, program=program, **SETTINGS)
-    own = plan.decisions[lambda row: row.fill_together.notna()]
+    own = whole_frame(plan)[lambda row: row.fill_together.notna()]
     dearer = own.cost_chosen > own.cost_today
     assert dearer.any() and (own[dearer].fill_chosen > own[dearer].fill_today).all()
     assert {*own[dearer].verdict} == {"more service"}

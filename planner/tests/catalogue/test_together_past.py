@@ -124,7 +124,7 @@ def test_price_meets_the_share_on_the_past(corrected: crn.Plan, program: Path) -
     assert plain.past is None and plain.tried == 0
     said = corrected.text.split("planned together")[1].splitlines()[3].split()
     assert said[2:5] == ["90.00%", f"{price.promised:.2%}", f"{price.past:.2%}"]
-    own = corrected.decisions[lambda row: row.fill_together.notna()]
+    own = corrected.details[lambda row: row.fill_together.notna()]
     assert own.fill_aimed.isna().all()
     corrected.report()
     said = f"such plans met {price.past:.2%} of demand at once, and {price.promised:.2%} by"

@@ -12,6 +12,7 @@ import crnplan as crn
 from planner.tests.backtest.test_catalogue import START, write
 from planner.tests.conftest import Command
 from planner.tests.plan.items import SHORT, several
+from planner.tests.planned_tables import whole_frame
 
 ITEMS, WEEKS, WINDOW = 32, 60, 26
 CUT = START + datetime.timedelta(7 * (WEEKS - WINDOW))
@@ -51,21 +52,22 @@ def test_as_if_no_earlier_row_were_there(
         sales[sales.date >= pd.Timestamp(CUT)], tables[1], start=CUT, **words
     )
     # The item that came late began within the record, but before the window.
-    is_late = windowed.decisions["item"] == "I-013"
-    pd.testing.assert_frame_equal(windowed.decisions[~is_late], cut.decisions[~is_late])
-    figures = windowed.decisions.columns.drop(["codes", "warnings"])
-    pd.testing.assert_frame_equal(windowed.decisions[figures], cut.decisions[figures])
+    rows, others = whole_frame(windowed), whole_frame(cut)
+    is_late = rows["item"] == "I-013"
+    pd.testing.assert_frame_equal(rows[~is_late], others[~is_late])
+    figures = rows.columns.drop(["codes", "warnings"])
+    pd.testing.assert_frame_equal(rows[figures], others[figures])
     assert (
         windowed.item("I-009").words.item.counts == cut.item("I-009").words.item.counts
     )
-    whole = crn.plan(sales, tables[1], **words).decisions
-    assert set(windowed.decisions.periods) == {WINDOW} and set(whole.periods) == {
+    whole = whole_frame(crn.plan(sales, tables[1], **words))
+    assert set(rows.periods) == {WINDOW} and set(whole.periods) == {
         WEEKS,
         30,
     }
-    assert (
-        windowed.decisions[["s_chosen", "S_chosen"]] != whole[["s_chosen", "S_chosen"]]
-    ).any(axis=1).mean() >= 0.5
+    assert (rows[["s_chosen", "S_chosen"]] != whole[["s_chosen", "S_chosen"]]).any(
+        axis=1
+    ).mean() >= 0.5
 
 
 def test_another_window_learns_anew(
@@ -144,5 +146,5 @@ def test_by_command_and_by_settings(
 
 
 def test_no_window_is_refused(tables: Sequence[Path]) -> None:
-    with pytest.raises(crn.Refused, match="window=0"):
+    with pytest.raises(crn.Refused, match="window: 0 is not from 1 to 65,536"):
         crn.plan(*tables, window=0)

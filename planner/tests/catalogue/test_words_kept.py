@@ -21,7 +21,8 @@ from crnplan.plan.settings import CATALOGUE_RULES
 from crnplan.read.catalogue_reading import READ
 from crnplan.read.cells import Unreadable
 from crnplan.read.dates import DateReader
-from crnplan.read.told import made_from, merged, told_of, words_from
+from crnplan.read.items import Reading
+from crnplan.read.told import made_from, merged, told_of
 from crnplan.toml.rules import Table
 from planner.tests.catalogue.conftest import TABLES
 from planner.tests.conftest import Answer, Command
@@ -34,12 +35,12 @@ SETTINGS: dict[str, Any] = {
     "fit": "empirical",
     "borrow": "none",
 }
-FILES = "demand.csv", "items.csv", "--orders", "orders.csv"
+FILES = "demand.csv", "items.csv", "--orders", "orders.csv", "--anyway"
 # What names inputs and outputs, or how the work is done: it is no word of reading or planning.
 OTHERS = {
     *("demand", "items", "orders", "out_of_stock", "overrides", "after", "config"),
     *("as_backtest", "laws"),
-    *("out", "only_read", "rejects", "csv_style"),
+    *("out", "only_read", "rejects"),
     *("anyway", "again", "jobs", "cluster", "program", "help"),
 }
 CASES, KEYS = (
@@ -170,7 +171,7 @@ def test_found_given_back(
 def test_keys_without_an_option() -> None:
     """Keys of crnplan.toml alone stand in what is stated of their words."""
     tree = merged(KEYS, {"factors": {"KAR": 12}})
-    stated = told_of(words_from(tree)) | told_of(made_from(Settings, tree))
+    stated = told_of(made_from(Reading, tree)) | told_of(made_from(Settings, tree))
     assert stated == {**KEYS, "factors": {"KAR": 12}}
 
 
@@ -182,19 +183,23 @@ def test_words_of_a_command_replace_found_ones() -> None:
         "day_first": {"/": True},
     }
     found = {"written": {"demand": own}, "units": {"items.lead": "day"}}
-    words = words_from(merged(found, {"delimiter": ",", "units": {"items.s": "12"}}))
+    words = made_from(
+        Reading, merged(found, {"delimiter": ",", "units": {"items.s": "12"}})
+    )
     rules = words.rules_of("demand")
     assert rules.delimiter == "," and rules.decimal_of("quantity") == ","
     assert rules.day_first == {"/": True}
     assert words.units == {"items": {"lead": "day", "s": "12"}}
-    point = words_from(merged(found, {"decimal": "."})).rules_of("demand")
+    point = made_from(Reading, merged(found, {"decimal": "."})).rules_of("demand")
     assert point.decimal_of("quantity") == "."
-    dates = words_from(merged(found, {"date_formats": ["%Y%m%d"]})).rules_of("demand")
+    dates = made_from(Reading, merged(found, {"date_formats": ["%Y%m%d"]})).rules_of(
+        "demand"
+    )
     assert dates.day_first == {}
     with pytest.raises(crn.Refused, match="is not one of . and ,"):
-        words_from({"written": {"demand": {"decimal": {"quantity": "x"}}}})
+        made_from(Reading, {"written": {"demand": {"decimal": {"quantity": "x"}}}})
     with pytest.raises(crn.Refused, match="is not one of , and ;"):
-        words_from({"written": {"demand": {"delimiter": "x"}}})
+        made_from(Reading, {"written": {"demand": {"delimiter": "x"}}})
 
 
 def test_stated_order_of_dates() -> None:
@@ -231,7 +236,8 @@ def test_today_reads_as_the_plan_did(
 
     assert stock_by() == {"A": 6.0, "C": 12.0}
     other = "--column stock.stock=other --unit stock.stock=item"
-    assert stock_by(*other.split()) == {"A": 4.0, "C": 2.0}
+    known = "--where", "stock.Bestand (VE)=*"
+    assert stock_by(*other.split(), *known) == {"A": 4.0, "C": 2.0}
     orders = crn.open_plan(room / "plan").orders_today("stock.csv", date="2026-11-02")
     assert stock_in(orders.frame, orders.above) == {"A": 6, "C": 12}
 

@@ -23,7 +23,7 @@ from crnplan.crnsim.program import (
     run_all,
     run_program,
 )
-from crnplan.crnsim.report import Report, Row, counting, pooled, read_rows, table_of
+from crnplan.crnsim.report import Report, Row, counting, csv_of, pooled, read_rows
 from crnplan.errors import ProgramError, Refused
 from crnplan.formats import COSTS
 from crnplan.scenario import Scenario
@@ -210,12 +210,12 @@ def test_values_and_counts(two_policies: str, program: Path) -> None:
     fractions = Fraction(-11, 2), Fraction(7, 2), Fraction(-1, 9)
     figures = [60, 80, 200, Fraction(50), -22, *fractions]
     assert rows[1] == Row("B", *figures)  # type: ignore[arg-type]
-    assert table_of(rows).csv == TEXT
+    assert csv_of(rows) == TEXT
     assert read_rows(TEXT.replace("\n", "\r\n")) == rows
     signs = TEXT.replace(
         "\nB,", "\n-B,"
     )  # a name that a spreadsheet would run stays as crnsim writes it
-    assert table_of(read_rows(signs)).csv == signs
+    assert csv_of(read_rows(signs)) == signs
     report = Report(tuple(rows), Scenario.parse(two_policies))
     frame = report.frame
     assert report.text == TEXT

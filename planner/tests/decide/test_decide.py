@@ -1,4 +1,4 @@
-"""Tests of paired-t intervals, of crnplan decide with its warnings, of what commands refuse, and of the worked case.
+"""Tests of paired-t intervals, of crnplan run with its warnings, of what commands refuse, and of the worked case.
 
 Intervals are compared with those of costs from which a report is made by the definitions of docs/FORMATS.md.
 """
@@ -20,8 +20,8 @@ import pytest
 from hypothesis import assume, given, strategies as st
 from scipy import stats
 
+from crnplan.decide.reports import check_replications
 from crnplan.decide.verdicts import (
-    check_replications,
     estimates_of,
     own_variance,
     t_quantile,
@@ -75,8 +75,8 @@ def cases_room(room: Path, write_priced: Callable[[str, str], None]) -> Path:
     for kind, whole in (("csv", "".join(rows)), ("toml", text)):
         for name, pairs in CASES["changes"][kind].items():
             (room / f"{name}.{kind}").write_text(changed(whole, *pairs), "utf-8")
-    only = text.partition("[[policy]]")[0] + '[[policy]]\nname = "only"\ns = 1\nS = 2\n'
-    (room / "only.toml").write_text(only, "utf-8")
+    grid = [f"{s},{S}" for s in range(6, 17) for S in range(20, 41, 2)]
+    (room / "grid.csv").write_text("\n".join(["s,S", *grid, ""]), "utf-8")
     (room / "demand.csv").write_text("period,demand\n1,0\n2,3\n", "utf-8")
     (room / "leads.csv").write_text("weeks\n1\n2\n", "utf-8")
     script(room / "two_lines", "echo first >&2\necho second >&2\nexit 2")
@@ -111,21 +111,24 @@ def test_prints_or_refuses(
 def test_standard_input_is_a_report(room: Path, crnplan: Command) -> None:
     words = "--replications", "64"
     data = (room / "examples/spare_part.csv").read_bytes()
-    given = crnplan("decide", "-", *words, data=data)
+    given = crnplan("run", "-", *words, data=data)
     assert given.status == 0
-    assert given == crnplan("decide", "examples/spare_part.csv", *words)
-    empty = crnplan("decide", "-", *words)
+    assert given == crnplan("run", "examples/spare_part.csv", *words)
+    empty = crnplan("run", "-", *words)
     assert empty.errors.startswith("crnplan: standard input:1: this is no report")
 
 
 @pytest.mark.parametrize(
     ("option", "count"), [(["--csv"], 122), (["--all"], 122), ([], 21)], ids=str
 )
-def test_lists_so_many_rows(crnplan: Command, option: list[str], count: int) -> None:
-    told = crnplan("decide", "examples/case/sweep.csv", "--replications", "64", *option)
+def test_lists_so_many_rows(
+    cases_room: Path, crnplan: Command, option: list[str], count: int
+) -> None:
+    words = "run examples/case/scenario.toml --policies grid.csv".split()
+    told = crnplan(*words, *option)
     lines = [
         line
-        for line in told.output.split("\n\n")[0].splitlines()
+        for line in told.output.split("\n\n")["--csv" not in option].splitlines()
         if "not listed" not in line
     ]
     assert len(lines) == count
@@ -187,7 +190,7 @@ def test_warns_of_end_effects_as_counted(
         assert abs(effect - mean) <= 4 * variance**0.5
     assert effects[1] < 0
     for words, place in ((["--csv"], 2), ([], 1)):
-        shown = crnplan("decide", "priced.csv", "--scenario", "priced.toml", *words)
+        shown = crnplan("run", "priced.csv", "--scenario", "priced.toml", *words)
         assert (
             f"By this alone diff_mean is from about {unit * min(effects):,.0f} ("
             in shown[place]
@@ -199,7 +202,7 @@ def test_warnings_without_unit_or_number(
     crnplan: Command, room: Path, write_priced: Callable[[str, str], None]
 ) -> None:
     shown = crnplan(
-        "decide", "examples/spare_part.csv", "--scenario", "examples/spare_part.toml"
+        "run", "examples/spare_part.csv", "--scenario", "examples/spare_part.toml"
     )
     assert shown.status == 0
     assert "unit" not in shown.output + shown.errors
@@ -211,7 +214,7 @@ def test_warnings_without_unit_or_number(
             "[10, 11, 12, 13, 14, 16]",
         ),
     )
-    shown = crnplan("decide", "more_back.csv", "--scenario", "more_back.toml")
+    shown = crnplan("run", "more_back.csv", "--scenario", "more_back.toml")
     assert shown.status == 0
     assert "is not known here.\n" in shown.output
 
@@ -399,10 +402,9 @@ def test_the_case_is_as_its_page_says(
     page = (top / "examples/case/README.md").read_text("utf-8")
     blocks = [block.split("```")[0].splitlines() for block in page.split("```sh\n")[1:]]
     commands = [line for block in blocks for line in block]
-    assert len(commands) == 11
+    assert len(commands) == 8
     for command in commands:
-        # `why` answers no: the scenario has faults.
-        assert run_line(command, crnplan) == int("broken" in command), command
+        assert run_line(command, crnplan) == 2 * ("broken" in command), command
     for name in STORED:
         stored = (top / "examples/case" / name).read_bytes()
         assert (

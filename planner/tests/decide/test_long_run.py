@@ -10,13 +10,10 @@ from pathlib import Path
 import pytest
 from scipy import stats
 
-from crnplan.crnsim.report import Row, pooled
+from crnplan.crnsim.report import Row
 from crnplan.decide import long_run
-from crnplan.decide.keys import check_long_run
-from crnplan.decide.long_run import LongRunReport, corrected_decision, start_warning
-from crnplan.decide.sensitivity import sensitivity
+from crnplan.decide.long_run import LongRunReport, start_warning
 from crnplan.decide.verdicts import Compared, Decision
-from crnplan.errors import Refused
 from crnplan.law import Law
 from crnplan.remarks import Remark
 from crnplan.policies import Policy
@@ -62,6 +59,12 @@ EVEN = replace(
 )
 # Today's levels of some items of seed 1, by number, as the generator of whole catalogues has written them.
 LEVELS = {0: (8, 46), 1: (15, 384), 3: (2623, 4069), 4: (55, 85), 5: (25, 139)}
+
+
+def corrected(scenario: Scenario, program: Path) -> Decision:
+    """Returns what a run of a scenario says of the long run, without the bias of its start."""
+    rows = scenario.run(program=program).rows
+    return LongRunReport.of(rows, scenario, scenario.replications).decide()
 
 
 def by_name(found: Decision) -> dict[str, Compared]:
@@ -117,8 +120,7 @@ def test_intervals_are_paired_t_intervals(report: LongRunReport) -> None:
 @pytest.mark.parametrize("unit", [0, 3])
 def test_corrected_costs_are_less_the_bias_of_a_chain(unit: int, program: Path) -> None:
     asked = replace(PART, costs=replace(PART.costs, unit=unit))
-    rows = asked.run(program=program).rows
-    found = corrected_decision(rows, asked)
+    found, rows = corrected(asked, program), asked.run(program=program).rows
     check_intervals(asked, rows, found, 0.95)
     assert by_name(found)["more"].effect is not None
 
@@ -150,7 +152,7 @@ def test_what_items_cost_is_left_out(
     """Each policy buys what is asked for less what comes back, so a run differs by its end alone."""
     asked = PART.changed(returns=returns, periods=60)
     free, priced = (
-        by_name(corrected_decision(its.run(program=program).rows, its))
+        by_name(corrected(its, program))
         for its in (asked, asked.changed(costs={"unit": 10}))
     )
     for name, row in free.items():
@@ -162,14 +164,9 @@ def test_what_items_cost_is_left_out(
 
 def test_effects_of_the_start(program: Path, monkeypatch: pytest.MonkeyPatch) -> None:
     """Nothing is said of the start if theory is not exact or knows nothing, and with nothing to compare."""
-    found = corrected_decision(PART.run(program=program).rows, PART)
+    found = corrected(PART, program)
     for it in ("more", "less"):
         assert abs(by_name(found)[it].effect or 0) > 0.25
-    assert found.warnings == (
-        Remark("strong start", {"policies": "more, less", "most": 0.25}),
-    )
-    with pytest.raises(Refused, match="one replication tells nothing of spread"):
-        corrected_decision([], replace(PART, replications=1))
     rows = PART.run(program=program).rows
     assert start_warning(rows, PART)
     assert not start_warning(rows[:1], PART)
@@ -219,7 +216,7 @@ def test_no_interval(program: Path) -> None:
     """There is none for fewer than two orders, and without spread."""
     for found in (
         SLOW.long_run(keys=2, program=program).decide(),
-        corrected_decision(SLOW.run(program=program).rows, SLOW),
+        corrected(SLOW, program),
     ):
         row = by_name(found)["more"]
         ends = row.std_error, row.low, row.high, row.cost_low
@@ -248,7 +245,7 @@ def test_a_start_beside_the_packs_is_said(
         initial=initial,
         policies=(Policy("today", 4, 11), Policy("more", 9, 26)),
     )
-    theory = corrected_decision(asked.run(program=program).rows, asked).theory
+    theory = corrected(asked, program).theory
     assert theory
     assert sentence(theory) == "exact but for rounding" + said
 
@@ -288,106 +285,44 @@ def test_run(asked: Callable[..., Answer], program: Path, room: Path) -> None:
     names = [line.split(",")[0] for line in pair.output.splitlines()[1:]]
     assert names == ["today", "s6_S14"]
     assert "replications: 5, comparisons with today: 1, joint level: 0.5" in pair.errors
-    near, coming = PART.changed(periods=12, initial=3), "--horizon 12 --stock 3"
-    says = "The coming 12 periods from a stock of 3\n"
-    wanted = near.run(program=program).text
-    assert asked(f"run part.toml {coming}") == (0, wanted, says)
-    own = PART.run(program=program).text
-    assert asked("run part.toml --stock 25").output == own
-    (room / "near.toml").write_text(near.toml())
-    for name, rest in (("sensitivity", ""), ("check", "more --key 00000000000000a1")):
-        found, wanted = (
-            asked(f"{name} {it}.toml {rest} {more}")
-            for it, more in (("part", coming), ("near", ""))
-        )
-        assert found == wanted
-        assert f"{says}\n" in found.output
-        assert not found.errors
-        found, wanted = (
-            asked(f"{name} {it}.toml {rest} {more} --json")
-            for it, more in (("part", coming), ("near", ""))
-        )
-        assert found == (wanted.status, wanted.output, says)
+    near, words = PART.changed(periods=12, initial=3), "--horizon 12 --stock 3"
+    found = asked(f"run part.toml {words} --out near.csv")
+    assert found.output.startswith("The coming 12 periods from a stock of 3\n\n")
+    assert (room / "near.csv").read_text() == near.run(program=program).text
+    asked("run part.toml --stock 25 --out own.csv")
+    assert (room / "own.csv").read_text() == PART.run(program=program).text
 
 
-def test_decide_on_a_report(
+def test_a_run_and_its_report(
     asked: Callable[..., Answer], room: Path, program: Path
 ) -> None:
-    rows = PART.run(program=program)
-    (room / "report.csv").write_text(rows.text)
-    decide = "decide report.csv --scenario part.toml"
-    found = asked(f"{decide} --long-run")
-    assert found == (0, corrected_decision(rows.rows, PART).text, "")
-    said = "from a common stock of 25 over 40 periods, less the bias of that start"
-    assert said in found.output
-    sweep = asked(f"{decide} --sweep --long-run --csv").output
-    assert sweep.splitlines()[0].endswith(",theory_cost,theory_diff,effect")
+    """A report that is read says what its run says, with the warnings of both."""
     rows = FREE.run(program=program)
     (room / "report.csv").write_text(rows.text)
     (warning,) = map(sentence, start_warning(rows.rows, FREE))
-    decide = "decide report.csv --scenario free.toml"
-    text, table, tree = (asked(f"{decide} {it}") for it in FORMS)
-    assert text.output.startswith("The coming 40 periods from a stock of 25\n\npolicy ")
-    end = f"\n\nWARNING: {warning}\n"
-    assert text.output.endswith(end)
-    assert table.errors.endswith(end)
-    read = json.loads(tree.output)
-    assert read["warnings"] == [warning]
-    assert read["horizon"] == "the coming 40 periods from a stock of 25"
-    assert "WARNING" not in asked("decide report.csv --replications 64").output
+    for words in ("run report.csv --scenario free.toml", "run free.toml"):
+        text, table, tree = (asked(f"{words} {it}") for it in FORMS)
+        said = "The coming 40 periods from a stock of 25\n\npolicy "
+        assert text.output.startswith(said)
+        end = f"\n\nWARNING: {warning}\n"
+        assert text.output.endswith(end)
+        assert table.errors.endswith(end)
+        read = json.loads(tree.output)
+        assert read["warnings"] == [warning]
+        assert read["horizon"] == "the coming 40 periods from a stock of 25"
+    assert "WARNING" not in asked("run report.csv --replications 64").output
 
 
-def test_check_in_the_long_run(asked: Callable[..., Answer], program: Path) -> None:
-    keys = [(word, *KEY[1:]) for word in ("00000000000000a1", "00000000000000a2")]
-    words = f"check part.toml more --long-run --key {keys[0][0]} --key {keys[1][0]}"
-    found = asked(words)
-    turned = PART.with_policies(sorted(PART.policies, key=lambda it: it.name != "more"))
-    first, second = (replace(turned, key=key).long_run(program=program) for key in keys)
-    rows = tuple(pooled([first.rows, second.rows], 48, 1024))
-    both = replace(first, rows=rows, replications=96).decide()
-    said = "".join(f"key {' '.join(key)}\n" for key in keys)
-    assert f"{said}\n{both.text}\n" in found.output
-    assert by_name(both)["less"].verdict == "better"
-    assert found.status == 1
-    said = "On these new histories more does not hold: less, today are better.\n"
-    assert found.output.endswith(said)
-    tree = json.loads(asked(f"{words} --json").output)
-    assert tree["keys"] == [list(key) for key in keys]
-    assert (tree["holds"], tree["replications"]) == (False, 96)
-    holds = asked("check part.toml less --long-run --csv")
-    assert holds.status == 0
-    assert "less holds" in holds.errors
-    assert holds.output.startswith("policy,s,S,cost,")
-    few = check_long_run(SLOW, "more", keys=[key[:1] for key in keys], program=program)
-    assert few.decision.warnings[0].facts["policies"] == "today"
-    assert few.holds
-
-
-def test_sensitivity_in_the_long_run(
-    asked: Callable[..., Answer], room: Path, program: Path
-) -> None:
-    even = replace(PART, costs=Costs(40, 3, 2, 8))
-    found = sensitivity(even, long_run=True, program=program)
-    cases = {
-        "base": even,
-        "lead_plus_1": replace(even, lead=Law((2, 4), (2, 1))),
-        "backlog_half": replace(even, costs=Costs(40, 3, 2, 4)),
-        "backlog_double": replace(even, costs=Costs(40, 3, 2, 16)),
-    }
-    for name, scenario in cases.items():
-        costs = [float(cost) for cost in found.costs[name]]
-        wanted = scenario.long_run(program=program).estimates
-        assert costs == pytest.approx([row.cost for row in wanted])
-    (room / "part.toml").write_text(even.toml())
-    text, _, tree = (
-        asked(f"sensitivity part.toml --long-run {it}").output for it in FORMS
-    )
-    assert text.startswith("The long run, without unit\n\npolicy ")
-    assert text == found.text
-    assert json.loads(tree)["horizon"] == text.split("\n")[0]
-    plain = asked("sensitivity part.toml").output
-    assert plain.startswith("The coming 40 periods from a stock of 25\n\npolicy ")
-    assert plain.split("\n\n", 1)[1] != text.split("\n\n", 1)[1]
+def test_another_key(asked: Callable[..., Answer], program: Path) -> None:
+    """All is as in the scenario with that key, for both horizons."""
+    other = PART.changed(key="another")
+    assert other.key != PART.key
+    found = asked("run part.toml --long-run --key another")
+    assert found == (0, other.long_run(program=program).decide().text, "")
+    assert found != asked("run part.toml --long-run")
+    run = asked("run part.toml --key another --out other.csv")
+    assert run.status == 0
+    assert Path("other.csv").read_text() == other.run(program=program).text
 
 
 def test_exact_savings_are_those_of_a_chain() -> None:

@@ -1,32 +1,29 @@
 """Tests of the checks of a history: planted effects, and the lines for planners."""
 from __future__ import annotations
 
-import dataclasses
 import math
 import time
 import tomllib
-from collections.abc import Sequence
+from collections.abc import Collection, Sequence
 from datetime import date
 from pathlib import Path
 from typing import Any
 
 import numpy as np
-import pandas as pd
 import pytest
 from hypothesis import given, settings, strategies as st
 from scipy import stats
 
 import crnplan as crn
-from crnplan.demand.checks import Checks, check_history, remarks_of
+from crnplan.demand.checks import Checks, check_history, checks_of
 from crnplan.demand.order_tests import Check
 from crnplan.demand.losses import STUDIED, Loss, loss_of, losses
 from crnplan.demand.seasons import Season, seasons_of
 from crnplan.demand.permutation import drawn_orders
-from crnplan.errors import Refused, spelt
-from crnplan.read.dates import period_of
+from crnplan.errors import Refused
+from crnplan.read.dates import period_name, period_of
 from crnplan.remarks import Remark
 from crnplan.words import advised, sentence
-from planner.tests.conftest import Command
 
 CASES = tomllib.loads(Path(__file__).with_name("checks.toml").read_text("utf-8"))
 RANDOM = np.random.default_rng(8)
@@ -42,10 +39,11 @@ for new in RANDOM.poisson(4, 103).tolist():
 BOTH = RANDOM.poisson(10 * (1 + 0.6 * SINE) * np.linspace(0.6, 1.4, 208)).tolist()
 
 
-def history_of(numbers: Sequence[int], first: date, every: str) -> crn.History:
-    """Returns a history whose first period has a day."""
-    none = (None,) * len(numbers)
-    return crn.History(tuple(numbers), none, (), (), every, period_of(first, every))
+def dated(
+    numbers: Sequence[int], first: date, every: str, season: int | None = None
+) -> Checks:
+    """Returns the checks of demand whose first period has a day."""
+    return checks_of(numbers, every, period_of(first, every), season=season)
 
 
 def named(checks: Checks, name: str) -> Any:
@@ -122,7 +120,7 @@ def test_shift() -> None:
         f"{after + 1}). In a study (Poisson, mean 10; shift +50%) such a plan cost "
     )
     assert "trend" not in [it.code for it in checks.warnings]
-    checks = check_history(history_of([3] * 40 + [9, 8] * 10, date(2025, 1, 6), "week"))
+    checks = dated([3] * 40 + [9, 8] * 10, date(2025, 1, 6), "week")
     text = said(checks.warnings)[0]
     assert "from 2025-W42 on the mean is 183% above that before" in text
     assert "(start=2025-10-13)" in text
@@ -149,8 +147,7 @@ def test_season() -> None:
     assert other.endswith("What the other warnings say may be why")
     assert "no season was tested" in said(check_history(SEASONAL).unknown)[-1]
     assert {"trend", "season"} <= {*check_history(BOTH, season=52).warned}
-    weeks = history_of([4, 1, 1, 1, 1] * 8, date(2025, 1, 6), "week")
-    checks = check_history(weeks, season=5)
+    checks = dated([4, 1, 1, 1, 1] * 8, date(2025, 1, 6), "week", season=5)
     assert checks.warned[-1] == "season"
     assert "2.5 times the mean in period 1 of 5" in said(checks.warnings)[0]
     short = said(check_history([1, 2] * 10, season=11).unknown)[-1]
@@ -171,7 +168,7 @@ def test_quarters() -> None:
     """Months have the calendar's quarters, weeks that of their Thursday, days from two years on."""
     place = np.arange(2, 38)
     numbers = np.where(place % 12 >= 9, 30, 10) + (place - 2) % 3
-    checks = check_history(history_of(numbers.tolist(), date(2023, 3, 1), "month"))
+    checks = dated(numbers.tolist(), date(2023, 3, 1), "month")
     assert "times the mean from October to December, " in said(checks.warnings)[0]
     (months,) = seasons(36, date(2023, 3, 1), "month")
     (weeks,) = seasons(120, date(2024, 1, 1), "week")
@@ -186,7 +183,7 @@ def test_quarters() -> None:
 
 def test_weekdays() -> None:
     numbers = [5, 6, 7, 5, 6, 0, 0, 6, 7, 5, 6, 7, 0, 0, 7, 5, 6, 7, 5, 0, 0] * 3
-    checks = check_history(history_of(numbers + numbers[:7], date(2025, 1, 6), "day"))
+    checks = dated(numbers + numbers[:7], date(2025, 1, 6), "day")
     text = said(checks.warnings)[0]
     assert text.startswith("demand follows the weekdays: 1.4 times the mean on ")
     assert "0 times on Sat" in text and "Take weeks (every=week)" in text
@@ -262,7 +259,8 @@ def test_any_history(numbers: list[int], season: int | None) -> None:
     """Checks are always the same, with p values of 1,200ths. An item of a catalogue has the same warnings and notes."""
     checks = check_history(numbers, season=season)
     assert checks == check_history(iter(numbers), season=season)
-    assert remarks_of(numbers, season=season) == (*checks.warnings, *checks.notes)
+    brief = checks_of(numbers, in_full=False, season=season)
+    assert (brief.warnings, brief.notes) == (checks.warnings, checks.notes)
     for test in checks.tests:
         assert test.p * 1200 == pytest.approx(round(test.p * 1200)) and 0 < test.p <= 1
     for line in checks.lines:
@@ -271,18 +269,8 @@ def test_any_history(numbers: list[int], season: int | None) -> None:
     assert len(checks.tests) in (0, 3 + has_season)
 
 
-def test_command(tmp_path: Path, crnplan: Command) -> None:
-    """The command says the lines on standard error; --season names a season. The table has a row for each test."""
-    path = tmp_path / "demand.csv"
-    pd.Series(SEASONAL, name="n").to_csv(path, index=False)
-    words = ["history", path, "--demand", "n", "--fit", "empirical"]
-    for more, season in (([], None), (["--season", 52], 52)):
-        told = crnplan(*words, *more)
-        with spelt(lambda name, value: f"--{name} {value}".strip()):
-            lines = check_history(SEASONAL, season=season).lines
-        assert told.errors == "".join(f"crnplan: {it}\n" for it in lines)
-        assert told.status == 0 and told.output.startswith("\n[demand]\n")
-    assert crnplan(*words, "--season", 1).status == 2
+def test_frame() -> None:
+    """The table has a row for each test."""
     frame = crn.check_history(SEASONAL, season=52).frame
     assert [*frame.index] == ["autocorrelation", "trend", "shift", "season"]
     assert [*frame["warns"]] == [True, False, False, True]
@@ -306,16 +294,19 @@ def test_gaps_keep_the_dates_of_periods() -> None:
     not tested if one of these has no week that is known."""
     counts = [3, 5, 4, 2, 6, 4, 3, 5, 4, 2, 6, 4, 5] * 8
     counts[60] = 40
-    unknown = tuple(range(8, 60, 4))
-    history = crn.History(
-        tuple(counts), (None,) * 104, (), (), "week", 2870, unknown=unknown
-    )
-    checks = crn.check_history(history)
-    assert checks.largest[0].facts["period_1"] == history.periods[60]
+
+    def without(unknown: Collection[int]) -> Checks:
+        """Returns the checks if the demand of some weeks is not known."""
+        places = [place for place in range(104) if place not in unknown]
+        numbers = [counts[place] for place in places]
+        return checks_of(numbers, "week", 2870, places=places)
+
+    checks = without(range(8, 60, 4))
+    assert checks.largest[0].facts["period_1"] == period_name(2870 + 60, "week")
     assert "season" in [test.name for test in checks.tests]
     quarters = seasons_of("week", 2870, 104, None)[0][0].part_of
-    gone = tuple(np.flatnonzero(quarters == 2).tolist())
-    checks = crn.check_history(dataclasses.replace(history, unknown=gone))
+    gone = np.flatnonzero(quarters == 2).tolist()
+    checks = without(gone)
     assert checks.periods == 104 - len(gone)
     assert "season" not in [test.name for test in checks.tests]
 

@@ -16,15 +16,13 @@ from scipy import special, stats
 from crnplan.chances import in_items
 from crnplan.demand import fitting, posterior
 from crnplan.demand.families import FAMILIES, METHODS, fits_of, predictive_of
-from crnplan.demand.fitted import Borrowed, Diagnostics, FittedLaw, notes_of
+from crnplan.demand.fitted import Borrowed, Diagnostics, FittedLaw, fit_words
 from crnplan.demand.fitting import cap_of, fit_demand, fit_lead, seen_share, share_of
 from crnplan.demand.posterior import allowed_laws
 from crnplan.demand.sample import Sample, Shares
-from crnplan.errors import Refused, RefusedFaults
+from crnplan.errors import Refused
 from crnplan.law import Law
-from crnplan.read import read_history, read_lead_times
 from crnplan.remarks import Remark
-from planner.tests.conftest import Command
 from planner.tests.demand.made import chances_of, check_law
 
 HERE = Path(__file__).parent
@@ -283,7 +281,7 @@ def test_diagnostics() -> None:
 
 @pytest.mark.parametrize("case", cases("notes.toml"), ids=lambda it: it["lines"][:1])
 def test_notes(case: dict[str, Any]) -> None:
-    """Notes say how a law was fitted, the families that the guard rejects, and figures of history and law."""
+    """It is said how a law was fitted, and which families the guard rejects."""
     facts, learned = case.get("facts", {}), case.get("borrowed")
     if "guard" in facts:
         facts["guard"] = {name: Shares(*it) for name, it in facts["guard"].items()}
@@ -294,7 +292,7 @@ def test_notes(case: dict[str, Any]) -> None:
         facts["borrowed"] = Borrowed(**learned)
     diagnostics = Diagnostics(Law((0, 2, 6), (2, 1, 1)), case["method"], **facts)
     law = FittedLaw.made(Law((0, 4), (3, 1)), case["family"], diagnostics)
-    assert notes_of(law, "demand") == [f"demand: {line}" for line in case["lines"]]
+    assert [*fit_words(law)] == case["lines"]
 
 
 @given(numbers=st.lists(st.integers(0, 120_000), min_size=1), box=st.integers(12, 1000))
@@ -346,34 +344,3 @@ def test_what_has_no_text() -> None:
             fit_demand(numbers)
     law = fit_demand([10_001, 3, 70_001, 80_000], method="empirical", box=8)
     assert law.values == (1, 1251, 8751, 10_000)
-
-
-def test_places_in_files(tmp_path: Path) -> None:
-    path = tmp_path / "file.csv"
-    path.write_text("at,n\n2026-03-02,9000\n2026-03-03,9000\n")
-    said = ":2:12: column 'n': week 2026-W10, which comes to 18000 in 2 rows, is "
-    with pytest.raises(RefusedFaults, match=said):
-        fit_demand(read_history(path, demand="n", date="at", every="week"))
-    path.write_text("weeks\n2\n40\n")
-    said = "file.csv:3:1: column 'weeks': 40 is above 32; take longer periods"
-    with pytest.raises(RefusedFaults, match=said):
-        fit_lead(read_lead_times(path, lead="weeks"))
-
-
-def test_command(tmp_path: Path, crnplan: Command) -> None:
-    """Demand and lead times are fitted by auto, unless --fit says otherwise."""
-    demand, leads = tmp_path / "demand.csv", tmp_path / "leads.csv"
-    pd.Series(ERRATIC, name="n").to_csv(demand, index=False)
-    leads.write_text("weeks\n2\n3\n2\n4\n")
-    words = ["history", demand, "--demand", "n", "--lead", leads, "weeks"]
-    for method, *more in (("empirical", "--fit", "empirical"), ("auto",)):
-        laws = {
-            "demand": fit_demand(ERRATIC, method=method),
-            "lead": fit_lead([2, 3, 2, 4], method=method),
-        }
-        text, notes = "", ""
-        for name, law in laws.items():
-            text += f"\n{law.toml(name)}"
-            notes += "".join(f"crnplan: {line}\n" for line in notes_of(law, name))
-        told = crnplan(*words, *more)
-        assert told[:2] == (0, text) and told.errors.endswith(notes)

@@ -23,7 +23,6 @@ from crnplan.demand.grid import Cells, chunks_of, marginal
 from crnplan.demand.learning import Learned, Prior, learn
 from crnplan.demand.sample import Sample
 from crnplan.errors import Refused, RefusedFaults
-from crnplan.read.observed import Observed
 from planner.tests.demand.made import (
     RARE,
     TRUE_MEAN,
@@ -115,12 +114,10 @@ def test_order_and_names(monkeypatch: pytest.MonkeyPatch, mixed: Histories) -> N
     expected, names = learn(mixed).text, [*mixed]
     np.random.default_rng(1).shuffle(names)
     histories = [mixed[name] for name in names]
-    none = (None,) * 41
     for items in (
         dict(zip(names, histories)),
         map(np.array, histories),
         [numbers[::-1] for numbers in histories],
-        [Observed(tuple(it), none[: len(it)], (), ()) for it in histories],
     ):
         assert learn(items).text == expected  # type: ignore[arg-type]
     # Of more items than are estimated on, those drawn depend on the seed alone.

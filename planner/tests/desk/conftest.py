@@ -117,7 +117,7 @@ def add_export(front: Front, export: Export) -> None:
     for kind, path in (("demand", export.demand), ("items", export.masters)):
         with path.open("rb") as data:
             file = front.desk.add_file(path.name, data)
-        front.desk.set_file(file.name, kind, "", True)
+        front.desk.set_file(file.name, kind, "")
     front.desk.keep_words({**QUICK, **WORDS})
 
 

@@ -42,7 +42,9 @@ class Served:
 
     def close(self) -> None:
         self.server.task_dispatcher.shutdown()
-        self.server.trigger.pull_trigger(lambda: close_all(self.server._map))
+        # A request that ends wakes the loop too: it may have closed all, with the trigger, before the trigger is pulled.
+        with contextlib.suppress(OSError):
+            self.server.trigger.pull_trigger(lambda: close_all(self.server._map))
         self.thread.join(LONGEST)
 
     def connected(self) -> socket.socket:

@@ -85,7 +85,7 @@ def test_exports_are_known_by_their_columns(
             "Order,SKU,Order date,Receipt date,Qty\n1,A,2025-06-02,2025-06-09,5",
             "orders",
         ),
-        ("PO,Part no.,Qty ordered,Qty received\n7,A,4,1", "unknown"),
+        ("PO,Part no.,Qty ordered,Qty received\n7,A,4,1", "on_order"),
         ("Artikelnummer;Bestellmenge offen;Liefertermin\nA;5;01.12.2026", "on_order"),
         ("Part no.;Std cost\nA;5", "items"),
     ],
@@ -367,13 +367,32 @@ def test_a_heading_that_says_nothing_is_known_the_next_week(planner: Planner) ->
     name = ours(planner, "1.csv")
     roles = {"role-0": "item", "role-1": "date", "role-2": "quantity"}
     for form in ({}, roles):
-        assert (
-            planner.post(f"/files/{name}", {"kind": "demand", **form}).status_code
-            == 303
-        )
+        form = {"kind": "demand", **form}
+        assert planner.post(f"/files/{name}", form).status_code == 303
     assert planner.desk.tree["demand"] == {"item": "c1", "date": "c2", "quantity": "c3"}
     planner.post("/files/drop", {"files": [file_of(table, "2.csv")]})
     assert kinds(planner) == {"2.csv": "demand"}
+
+
+def test_a_kind_is_chosen_once(planner: Planner) -> None:
+    """Until the kind of a file is chosen, the page says which earlier files are in use. The file then replaces the one of its
+    kind, and the next one with its heading is known."""
+    dropped = [
+        (b"item,setup,holding\nA,1,2\n", "old.csv"),
+        (b"Artikel-Kennung;Kosten\nA;1\n", "new.csv"),
+        (b"Artikel-Kennung;Kosten\nA;2\n", "next.csv"),
+    ]
+    seen = []
+    for data, called in dropped:
+        planner.post("/files/drop", {"files": [file_of(data, called)]})
+        seen.append(kinds(planner))
+        if called == "new.csv":
+            page = planner.get("/files").text
+            assert "in use: masters of items (<bdi>old.csv</bdi>)." in page
+            planner.post(f"/files/{ours(planner, called)}", {"kind": "items"})
+            assert kinds(planner) == {"new.csv": "items"}
+    assert seen[0] == {"old.csv": "items"}
+    assert seen[1:] == [{**seen[0], "new.csv": "unknown"}, {"next.csv": "items"}]
 
 
 def test_another_system_is_known_beside_stated_columns(planner: Planner) -> None:

@@ -52,7 +52,7 @@ def filed(planner: Planner, monkeypatch: pytest.MonkeyPatch) -> Planner:
             file.write(text.encode())
             file.seek(0)
             name = planner.desk.add_file(f"{kind}.csv", file).name
-        planner.desk.set_file(name, kind, "", False)
+        planner.desk.set_file(name, kind, "")
     return planner
 
 

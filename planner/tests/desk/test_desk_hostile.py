@@ -72,6 +72,8 @@ BROKEN: list[object] = [
     KEYS | {"plans": ["../../elsewhere"]},
     KEYS | {"plans": ["/elsewhere"]},
     KEYS | {"files": [{"kind": "..", "name": "../x", "called": "x"}]},
+    KEYS | {"moves": {"files/../../x": ""}},
+    KEYS | {"moves": {"x": "/x"}},
     KEYS | {"begun": {"kind": "plan", "out": "../x"}},
     KEYS | {"begun": {"kind": "plan", "after": "/x"}},
     KEYS | {"begun": {"kind": "plan", "test": "plans/../../x"}},
@@ -138,7 +140,7 @@ def full(front: Front, tmp_path: Path, monkeypatch: pytest.MonkeyPatch) -> Plann
         with path.open("rb") as data:
             front.desk.add_file(path.name, data)
     for file, kind in zip([*front.desk.state.files], ("demand", "items")):
-        front.desk.set_file(file.name, kind, "", True)
+        front.desk.set_file(file.name, kind, "")
     add_made_plan(front, 12)
     monkeypatch.setattr(front, "begin", lambda begun: None)
     monkeypatch.setattr(server.os, "kill", lambda *words: None)

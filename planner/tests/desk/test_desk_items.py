@@ -15,7 +15,8 @@ from crnplan.desk.safety import WHOLE_PAGE
 from crnplan.desk.work import STOPPED, TESTING
 from crnplan.read.overrides import SET_LEVELS, Override as Stated
 from crnplan.read.overriding import read_overrides
-from crnplan.read.told import words_of
+from crnplan.read.items import Reading
+from crnplan.read.told import made_from
 from planner.tests.conftest import shared
 from planner.tests.desk.conftest import (
     MADE_PLAN,
@@ -45,7 +46,7 @@ QUICK = {"periods": 64, "replications": 4, "fit": "empirical", "borrow": "none"}
 def drop(planner: Planner, kind: str, text: str) -> None:
     """Puts a file of a kind into a desk."""
     file = planner.desk.add_file(f"{kind}.csv", io.BytesIO(text.encode()))
-    planner.desk.set_file(file.name, kind, "", False)
+    planner.desk.set_file(file.name, kind, "")
 
 
 def plan(planner: Planner, **fields: str) -> None:
@@ -154,7 +155,6 @@ def test_what_if(
         frame["cost"] = 20 * frame["orders"] + 0.2 * frame["stock"]
         wanted = 0.95
     else:
-        frame["cost"] /= float(scenario.scale)
         wanted = 0.0
     if share:
         wanted = float(share.replace("90%", "0.9"))
@@ -352,5 +352,5 @@ def test_what_is_set_is_read_whatever_the_files_are_like(
     with planner.desk.changing() as state:
         state.overrides["Größe; 1"] = Override("Größe; 1", 7, 33, reason="größer")
     table = planner.desk.overrides_table()
-    stated, _ = read_overrides(table, words_of(planner.desk.words))
+    stated, _ = read_overrides(table, made_from(Reading, planner.desk.tree))
     assert stated == {"Größe; 1": Stated(SET_LEVELS, 7, 33, "größer")}

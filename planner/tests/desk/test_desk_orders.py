@@ -141,14 +141,18 @@ def refusal(answer: TestResponse) -> str:
     return html.unescape(answer.text)
 
 
-def dropped(planner: Planner, kind: str, rows: Mapping[str, object]) -> None:
-    """Drops a file of today with a row for each item."""
+def table_of(amount: str, rows: Mapping[str, object]) -> io.BytesIO:
+    """Returns a file with a row for each item."""
     text = io.StringIO()
-    amount = "stock" if kind == "stock" else "quantity"
     csv.writer(text).writerows([["item", amount], *rows.items()])
-    data = io.BytesIO(text.getvalue().encode())
+    return io.BytesIO(text.getvalue().encode())
+
+
+def dropped(planner: Planner, kind: str, rows: Mapping[str, object]) -> None:
+    """Has the desk keep a file of today."""
+    data = table_of("stock" if kind == "stock" else "quantity", rows)
     file = planner.desk.add_file(f"{TAG}.csv", data)
-    planner.desk.set_file(file.name, kind, "", True)
+    planner.desk.set_file(file.name, kind, "")
 
 
 @pytest.fixture
@@ -399,35 +403,6 @@ def test_all_orders_are_placed(planner: Planner, shown: Shown) -> None:
     shown.send(shown.forms[-2], "/today/place")
     placed = {order.item: order.quantity for order in planner.desk.state.placed}
     assert (placed, Shown(planner).lines) == (shown.lines, {})
-
-
-def test_newer_file_takes_over(
-    planner: Planner, shown: Shown, monkeypatch: pytest.MonkeyPatch
-) -> None:
-    """What was placed counts until a file of what is on order is dropped later: then that has it, or has it not."""
-    orders, own = shown.lines, shown.form("0017").values("item")
-    clock = {"now": f"{DAY} 08:00:00"}
-    for place in (kept, module):
-        monkeypatch.setattr(place, "now", lambda: clock["now"])
-    dropped(planner, "on_order", {"P00010": 1})
-    shown = Shown(planner)
-    shown.send(shown.form("0017"), "/today/place")
-    assert Shown(planner).lines.keys() == orders.keys() - {*own}
-    clock["now"] = f"{DAY} 08:00:01"
-    dropped(planner, "on_order", {own[0]: orders[own[0]]})
-    shown = Shown(planner)
-    assert shown.lines.keys() == orders.keys() - {own[0]}
-    assert shown.text.count("is in the newer file") == len(own)
-    assert "--placed" not in shown.text
-    shown.send(shown.form(own[1]), "/today/place", without=own[2])
-    shown = Shown(planner)
-    assert shown.lines.keys() == orders.keys() - {*own}
-    assert shown.text.count("<td>counts as on order") == 1
-    assert re.search("(?s)<td>counts as on order.*<td>is in the newer", shown.text)
-    shown.send(shown.ending(), "", None, ("way", "filed"))
-    assert [it.item for it in planner.desk.state.placed] == [own[1]]
-    assert Shown(planner).lines.keys() == orders.keys() - {*own}
-    assert "newer file has off this list" not in Shown(planner).text
 
 
 def test_two_browsers(planner: Planner, shown: Shown) -> None:

@@ -2,6 +2,7 @@
 from __future__ import annotations
 
 import io
+import operator
 from collections.abc import Iterator
 from dataclasses import replace
 from pathlib import Path
@@ -26,7 +27,7 @@ from planner.tests.show.test_catalogue_page import HOSTILE
 
 SUPPLIER = "<b>Müller & Söhne</b>"
 ITEMS = 130
-TEXTS = "item", "description", "class", "verdict", "by", "warnings"
+TEXTS = "item", "description", "class", "verdict", "by", "warnings", "abc", "override"
 
 
 @pytest.fixture(scope="module")
@@ -41,8 +42,9 @@ def buyer(tmp_path_factory: pytest.TempPathFactory) -> Iterator[Planner]:
 
 @pytest.fixture(scope="module")
 def decisions(buyer: Planner) -> pd.DataFrame:
-    """Returns decisions.csv by the headings of the page."""
-    frame = pd.DataFrame(rows_of(folder_of(buyer) / "decisions.csv"))
+    """Returns the decisions with their details, by the headings of the page."""
+    files = (folder_of(buyer) / name for name in ("decisions.csv", "details.csv"))
+    frame = pd.DataFrame(map(operator.or_, *map(rows_of, files)))
     headings = {column.name: column.title for column in ITEM_COLUMNS}
     return frame.rename(columns=headings)
 

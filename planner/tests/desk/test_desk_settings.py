@@ -33,7 +33,7 @@ KEPT = {
     "fill": "97%",
     "service": {"A": "98%"},
     "lead": "14 days",
-    "order_min": 3,
+    "order_min": "3",
     "every": "week",
     "season": "none",
     "from": "2026-01-01",
@@ -57,12 +57,12 @@ def test_what_is_typed_is_kept(planner: Planner) -> None:
 
 def test_items_are_met_together(planner: Planner) -> None:
     """A share of all together stands alone in a file of others, and by class on the page."""
-    planner.desk.keep_words({"together": "95%", "at_least": 0.85})
+    planner.desk.keep_words({"together": "95%", "at_least": "85%"})
     page = planner.get("/settings").text
     assert re.search(r'name="together of" value="">.*?value="95%"', page, re.DOTALL)
     form = {"together of": ["", "A"], "together": ["95%", "98%"], "at_least": "85%"}
     assert planner.post("/settings", form).status_code == 303
-    assert planner.desk.tree == {"together": {"": "95%", "A": "98%"}, "at_least": 0.85}
+    assert planner.desk.tree == {"together": {"": "95%", "A": "98%"}, "at_least": "85%"}
 
 
 @pytest.mark.parametrize(
@@ -158,5 +158,5 @@ def test_each_field_has_its_words() -> None:
         words = words_of(language)
         for name, word in WORDS.items():
             assert words["fields"][name] and words["hints"][name]
-            if word.kind == "choice":
-                assert {*words["choices"][name]} == {*word.choices}
+            if word.kind.shape == "choice":
+                assert {*words["choices"][name]} == {*word.kind.choices}

@@ -37,7 +37,7 @@ def make_large(path: Path) -> None:
         add_made_plan(front, ITEMS)
         front.desk.add_file("stock.csv", file_of(STOCK.encode(), "stock.csv")[0])
         (file,) = front.desk.state.files
-        front.desk.set_file(file.name, "stock", "", True)
+        front.desk.set_file(file.name, "stock", "")
 
 
 @pytest.fixture

@@ -33,7 +33,8 @@ def check_orders(plan: Path, today: Path, parts: pd.DataFrame) -> pd.Series[floa
     assert [int(name[-3:]) for name in unknown] == [NEW]
     parts, orders = parts.loc[decisions.index], orders.drop(unknown)
     due = parts.stock < decisions.s_chosen
-    assert {*orders.index} == {*parts.index[due]} and decisions.periods.max() == WEEKS
+    assert {*orders.index} == {*parts.index[due]}
+    assert pd.read_csv(plan / "details.csv").periods.max() == WEEKS
     wanted = (decisions.S_chosen - parts.stock)[orders.index]
     assert (orders.order == wanted).all() and (orders.placed >= wanted).all()
     worth = orders.placed * parts.price[orders.index]

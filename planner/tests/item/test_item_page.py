@@ -1,8 +1,9 @@
-"""Tests the page of `crnplan item`: it stands alone, and has the files' figures and the item's laws."""
+"""Tests the page of an item alone: it stands alone, and has the item's figures and laws."""
 from __future__ import annotations
 
+import csv
+import datetime
 import re
-import shutil
 from collections import Counter
 from collections.abc import Callable, Mapping
 from decimal import Decimal
@@ -18,22 +19,20 @@ from crnplan.show.item_page import LAW_COLUMNS, laws_of
 from crnplan.show.law_words import law_words
 from crnplan.plan.how import Settings
 from crnplan.plan.question import question_of
-from planner.tests.conftest import Command, cases_beside
-from planner.tests.item.conftest import Plan
-from planner.tests.show.page_reader import Page, rows_of as list_of
+from crnplan.table import DataTable
+from planner.tests.conftest import cases_beside
+from planner.tests.item.conftest import Alone, page_of
+from planner.tests.show.page_reader import Page
 from planner.tests.plan.items import item_of
 
 CASES = cases_beside(__file__)
 Row = Mapping[str, str]
 
 
-def page_of(folder: Path) -> Page:
-    return Page(folder / "summary.html")
-
-
-def rows_of(folder: Path, name: str) -> dict[str, Row]:
-    """Returns the rows of a file of a plan by their first cell."""
-    return {next(iter(row.values())): row for row in list_of(folder / name)}
+def rows_of(table: DataTable) -> dict[str, Row]:
+    """Returns the rows of a table, as a file has them, by their first cell."""
+    rows = csv.DictReader(table.csv.splitlines())
+    return {next(iter(row.values())): row for row in rows}
 
 
 def money(text: str, digits: int = 2) -> str:
@@ -87,170 +86,156 @@ def moved(row: Row) -> list[str]:
     ]
 
 
-TABLES: dict[str, tuple[str, Callable[[Row], list[str]]]] = {
-    "All policies in the long run": ("policies.csv", policy),
-    "Each policy under the laws that the history allows": ("doubt.csv", doubted),
+def policies_of(item: crn.PlannedItem) -> DataTable:
+    return item.table
+
+
+def doubt_of(item: crn.PlannedItem) -> DataTable:
+    return item.doubt().table
+
+
+def moves_of(item: crn.PlannedItem) -> DataTable:
+    return item.moves().table
+
+
+Tabled = tuple[Callable[[crn.PlannedItem], DataTable], Callable[[Row], list[str]]]
+TABLES: dict[str, Tabled] = {
+    "All policies in the long run": (policies_of, policy),
+    "Each policy under the laws that the history allows": (doubt_of, doubted),
     "The best policy in each case, and what it costs to keep the chosen one": (
-        "sensitivity.csv",
+        moves_of,
         moved,
     ),
 }
 
 
+@pytest.fixture(scope="module")
+def page(whole: crn.PlannedItem, tmp_path_factory: pytest.TempPathFactory) -> Page:
+    return page_of(whole, tmp_path_factory.mktemp("page"))
+
+
 @pytest.mark.parametrize("caption", TABLES)
-def test_tables_are_those_of_the_files(caption: str, whole: Path) -> None:
-    """Each table has the rows of its file, in that order, with its figures as a reader has them."""
-    name, cells = TABLES[caption]
-    rows = [cells(row) for row in rows_of(whole, name).values()]
-    assert (
-        page_of(whole).tables[caption][1:]
-        == rows[: 10 if name == "doubt.csv" else None]
-    )
+def test_tables_are_those_of_the_item(
+    caption: str, whole: crn.PlannedItem, page: Page
+) -> None:
+    """Each table has the rows of the item's, in that order, with its figures as a reader has them."""
+    table_of, cells = TABLES[caption]
+    rows = [cells(row) for row in rows_of(table_of(whole)).values()]
+    most = 10 if table_of is doubt_of else None
+    assert page.tables[caption][1:] == rows[:most]
     assert len(rows) > 8
 
 
-@pytest.mark.parametrize(
-    "title, name, ends",
-    [
-        (
-            "Cost compared with today's policy, in the long run",
-            "policies.csv",
-            ("run_low", "run_high"),
-        ),
-        (
-            "Cost compared with today's policy, over the coming 12 weeks",
-            "coming.csv",
-            ("low", "high"),
-        ),
-    ],
-)
-def test_intervals_are_those_of_the_files(
-    title: str, name: str, ends: tuple[str, str], whole: Path
-) -> None:
+def test_intervals_are_those_of_the_item(whole: crn.PlannedItem, page: Page) -> None:
     """Each difference stands in a table, and is the label of its picture with both ends."""
-    page, rows = page_of(whole), rows_of(whole, name)
+    title = "Cost compared with today's policy, in the long run"
+    rows = rows_of(whole.table)
     assert "difference from today" in page.tables[title][0]
     shown = {cells[0].split("(")[0]: cells[-1] for cells in page.tables[title][1:-1]}
-    assert shown == {
-        it: f"{money(row['difference'])}{row['verdict']}" for it, row in rows.items()
-    }
-    for it, row in rows.items():
-        low, high = (money(row[end]) for end in ends)
+    wanted = {}
+    for name, row in rows.items():
+        difference, verdict = money(row["difference"]), row["verdict"]
+        wanted[name] = f"{difference}{verdict}"
+        low, high = money(row["run_low"]), money(row["run_high"])
         between = "" if low == "-" else f", from {low} to {high}"
-        assert (
-            f"{it}: {money(row['difference'])}{between}, {row['verdict']}"
-            in page.pictures
-        )
+        assert f"{name}: {difference}{between}, {verdict}" in page.pictures
+    assert shown == wanted
 
 
-def test_pictures_say_their_figures(whole: Path) -> None:
-    """The pictures of the history and of the stock say in words what the files have."""
-    page = page_of(whole)
-    demand = {
-        name: int(row["demand"]) for name, row in rows_of(whole, "demand.csv").items()
-    }
+def test_pictures_say_their_figures(
+    whole: crn.PlannedItem, page: Page, counts: list[int]
+) -> None:
+    """The picture of the history says in words what the demand and its law are."""
     text = page.pictures["Demand by week, and the law that it is planned by"]
-    first, *_, last = demand
-    assert (
-        f"{len(demand)} weeks from {first} to {last}, {sum(demand.values()):,} items"
-        in text
-    )
-    assert (
-        f"the greatest demand is {max(demand.values())}, in {max(demand, key=demand.__getitem__)};"
-        in text
-    )
-    law = [row for row in list_of(whole / "laws.csv") if row["table"] == "demand"][-1]
-    assert (
-        f"mean of the law: {float(law['mean']):.2f} a week; 99 of 100 weeks by the law: at most "
-        in text
-    )
-    assert text.endswith(f" at most {law['99.0%']}.")
+    most = max(counts)
+    monday = datetime.date(2023, 1, 2) + datetime.timedelta(7 * counts.index(most))
+    year, week, _ = monday.isocalendar()
+    law = whole.scenario.demand
+    for said in (
+        f"{len(counts)} weeks from 2023-W01 to 2024-W52, {sum(counts):,} items",
+        f"the greatest demand is {most}, in {year}-W{week:02};",
+        f"mean of the law: {float(law.mean):.2f} a week; 99 of 100 weeks by the law: at most ",
+    ):
+        assert said in text
+    (bars,) = re.findall('class="bar" d="([^"]+)"', page.source)
+    assert bars.count("M") == len(counts) - counts.count(0)
 
 
-def test_picture_of_the_law(whole: Path) -> None:
+def test_picture_of_the_law(
+    whole: crn.PlannedItem, page: Page, counts: list[int]
+) -> None:
     """It says which share of the weeks, and of the law, have at least so much demand."""
-    demand = [int(row["demand"]) for row in rows_of(whole, "demand.csv").values()]
     title = "In how many weeks demand is so large, as it was seen and by the law"
-    seen, by_law = page_of(whole).pictures[title].rstrip(".").split("; ")
-    law = crn.Scenario.read(whole / "scenario.toml").demand
-    for counts, said in (
-        (Counter(demand), seen),
+    seen, by_law = page.pictures[title].rstrip(".").split("; ")
+    law = whole.scenario.demand
+    for numbers, said in (
+        (Counter(counts), seen),
         (Counter(dict(zip(law.values, law.weights))), by_law),
     ):
         shares = re.findall(r"at least (\d+) in ([0-9.]+)%", said)
         assert len(shares) > 1
         for least, share in shares:
-            above = sum(its for value, its in counts.items() if value >= int(least))
-            wanted = 100 * above / counts.total()
+            above = sum(its for value, its in numbers.items() if value >= int(least))
+            wanted = 100 * above / numbers.total()
             assert float(share) == pytest.approx(wanted, abs=0.006)
 
 
-def test_picture_of_the_stock(whole: Path) -> None:
-    stocks: dict[str, list[int]] = {}
-    for row in list_of(whole / "trajectory.csv"):
-        stocks.setdefault(row["policy"], []).append(int(row["stock"]))
-    text = page_of(whole).pictures["Stock at the end of each week of one run"]
-    assert [len(its) for its in stocks.values()] == [104, 104]
-    for name, its in stocks.items():
-        owed, mean = sum(it < 0 for it in its), sum(its) / len(its)
-        said = f"{name}: from {min(its)} to {max(its)}, {mean:.1f} in the mean, items owed at the end of {owed} weeks"
+def test_picture_of_the_stock(
+    whole: crn.PlannedItem, page: Page, program: Path
+) -> None:
+    """Both policies start from today's stock, and the picture says what becomes of it."""
+    policies = [it for it in whole.scenario.policies if it.name in ("today", "chosen")]
+    scenario = whole.scenario.changed(initial=20, policies=policies, periods=104)
+    runs = crn.trajectories(scenario, 104, program=program)
+    text = page.pictures["Stock at the end of each week of one run"]
+    for its, periods in zip(policies, runs):
+        stocks = [period.stock for period in periods]
+        owed, mean = sum(stock < 0 for stock in stocks), sum(stocks) / len(stocks)
+        said = (
+            f"{its.name}: from {min(stocks)} to {max(stocks)}, {mean:.1f} in the mean, items owed at the end of "
+            f"{owed} weeks"
+        )
         assert said.replace("-", "\u2212") in text
 
 
-def test_picture_of_the_law_whatever_the_order(room: Path, plan: Plan) -> None:
+def test_picture_of_the_law_whatever_the_order(
+    alone: Alone, whole: crn.PlannedItem, counts: list[int]
+) -> None:
     """The picture of the law is that of a history in another order, though its weeks are others."""
-    pictures = []
-    for number, lines in enumerate(
-        2 * [(room / "history.csv").read_text().splitlines()]
-    ):
-        (room / "history.csv").write_text(
-            "\n".join([lines[0], *lines[:0:-1]] if number else lines) + "\n"
-        )
-        plan(f"plan_{number}")
-        text = (room / f"plan_{number}/summary.html").read_text()
-        pictures.append(re.findall(r"<figure.*?</figure>", text, re.DOTALL)[:2])
+    pictures = [
+        re.findall(r"<figure.*?</figure>", its.page, re.DOTALL)[:2]
+        for its in (whole, alone(counts[::-1]))
+    ]
     assert pictures[0][1] == pictures[1][1]
     assert "as it was seen" in pictures[0][1]
     assert pictures[0][0] != pictures[1][0]
 
 
-def test_page_stands_alone(whole: Path) -> None:
+def test_page_stands_alone(whole: crn.PlannedItem, page: Page) -> None:
     """The page links to nothing, allows its own style alone, and has the summary's words and all policies."""
-    page = page_of(whole)
     page.check_alone()
     assert set(page.addresses) == {"data:,"}
     assert not page.parts["script"]
     assert all(page.pictures.values())
     assert [caption.strip() for caption in page.parts["caption"]] == [*page.tables]
-    wanted = " ".join((whole / "summary.txt").read_text().split())
     told = re.search(
-        r"^(Below .*?) (history: .*? weeks[.]) policy s S .* (In the long run .*?[.]) The chosen policy "
-        "is ",
-        wanted,
+        r"^(Below .*?) (part: .*? weeks[.]) policy s S .* (In the long run .*?[.]) The chosen policy is ",
+        " ".join(whole.text.split()),
     )
     assert told
     for part in told.groups():
         assert part in page.words
-    scenario = crn.Scenario.read(whole / "scenario.toml")
-    assert [it.name for it in scenario.policies]
-    assert set(rows_of(whole, "policies.csv")) == {it.name for it in scenario.policies}
+    scenario = whole.scenario
+    assert {*rows_of(whole.table)} == {it.name for it in scenario.policies}
     for it in scenario.policies:
-        assert page.words.count(f" {it.name} ") >= 3
-    assert (
-        f"Key {' '.join(scenario.key)}; scenario of version {scenario.version}. "
-        in page.words
-    )
-    counts = [row["demand"] for row in rows_of(whole, "demand.csv").values()]
-    (bars,) = re.findall('class="bar" d="([^"]+)"', page.source)
-    assert bars.count("M") == len(counts) - counts.count("0")
+        assert page.words.count(f" {it.name} ") >= 2
+    key = " ".join(scenario.key)
+    assert f"Key {key}; scenario of version {scenario.version}. " in page.words
 
 
-def test_page_escapes_texts(room: Path, crnplan: Command, program: Path) -> None:
-    """The name of an item is no markup. It is that of its file, if the settings have none."""
-    shutil.copy(room / "history.csv", room / "a<b>&.csv")
-    words = "--out", room / "plan", "--program", program
-    crnplan("item", room / "a<b>&.csv", room / "settings.toml", *words)
-    page = page_of(room / "plan")
+def test_page_escapes_texts(alone: Alone, tmp_path: Path) -> None:
+    """The name of an item is no markup."""
+    page = page_of(alone(name="a<b>&"), tmp_path)
     assert "a<b>&" in page.words
     assert not page.open
     assert "b" not in page.parts["h1"]
@@ -273,13 +258,9 @@ def test_words(family: str, method: str, facts: dict[str, Any], words: str) -> N
 @pytest.mark.parametrize("method", ["auto", "predictive", "empirical"])
 def test_figures(numbers: list[int], method: str) -> None:
     """Each row has the figures that numpy has for the history, or for the law. The last one of a law names it."""
-    leads = [2, 3, 2, 4]
+    leads = [2, 3, 2, 4] * 5  # so many that they are taken as they are
     item = item_of(counts=tuple(numbers), leads=tuple(leads))
-    rows = [
-        *laws_of(
-            question_of(item, Settings(fit=method, lead_fit="empirical")), None
-        ).rows
-    ]
+    rows = [*laws_of(question_of(item, Settings(fit=method)), None).rows]
     names = "table law mean variance 95.0% 99.0% 99.9% largest"
     assert [it.name for it in LAW_COLUMNS] == names.split()
     its = crn.fit_demand(numbers, method=method)
@@ -305,24 +286,13 @@ def test_figures(numbers: list[int], method: str) -> None:
         assert row[4:] == [*quantiles, max(sample)]
 
 
-def test_unknown_weeks_are_gaps(room: Path, plan: Plan) -> None:
-    """A week without a demand is refused until it is stated what that means. Then it is drawn as a gap, is an empty cell of
-    the table, and counts for nothing in what is said."""
-    path = room / "history.csv"
-    lines = path.read_text().splitlines()
-    lines[3] = lines[3].split(",")[0] + ","
-    path.write_text("\n".join(lines) + "\n")
-    assert plan().refuses("say [history] empty = unknown")
-    settings = room / "settings.toml"
-    text = settings.read_text()
-    settings.write_text(text.replace("[history]", '[history]\nempty = "unknown"', 1))
-    status, output, errors = plan()
-    assert status == 0, errors
-    written = [row["demand"] for row in list_of(room / "plan/demand.csv")]
-    assert written == [line.split(",")[1] for line in lines[1:]] and not written[2]
-    counts = [int(line.split(",")[1]) for line in lines[1:] if line[-1] != ","]
-    page = page_of(room / "plan")
-    said = f"{len(counts):,} weeks, {sum(counts):,} items, {counts.count(0):,} weeks"
+def test_unknown_weeks_are_gaps(
+    alone: Alone, counts: list[int], tmp_path: Path
+) -> None:
+    """A week whose demand is not known is drawn as a gap, and counts for nothing in what is said."""
+    known = counts[:2] + counts[3:]
+    page = page_of(alone([*counts[:2], None, *counts[3:]]), tmp_path)
+    said = f"{len(known):,} weeks, {sum(known):,} items, {known.count(0):,} weeks"
     assert f"{said} without demand, and 1 weeks not known." in page.source
     assert page.source.count('class="gap"') == 1
     assert "the demand of 1 more is not known" in page.source

@@ -19,20 +19,19 @@ from crnplan.plan.answer import BOUNDED, CHEAPER, RUN, SAME, Answer, Run
 from crnplan.plan.bounds import MOST_COVERAGE, feasible_of
 from crnplan.plan.catalogue import planned_folder
 from crnplan.plan.changes import masters_of
-from crnplan.plan.item import Depth, read_item
+from crnplan.plan.item import Depth
 from crnplan.plan.one import plan_one
 from crnplan.plan.how import Settings
 from crnplan.plan.question import Question, question_of
 from crnplan.read.bounds import Bounds
 from crnplan.read.item import Item
 from crnplan.remarks import Value
-from crnplan.policies import Policy
 from crnplan.theory.feasible import Feasible
 from crnplan.theory.many_laws import Promises
 from crnplan.words import sentence
-from planner.tests.conftest import Command, cases_beside, rows_of
+from planner.tests.conftest import Command, cases_beside
 from planner.tests.plan.items import alone
-from planner.tests.theory import chain
+from planner.tests.planned_tables import whole_rows
 from planner.tests.theory.long_run_costs import costs_of, fills_of, shortfall_of
 
 CASES = cases_beside(__file__)
@@ -354,41 +353,10 @@ def test_an_earlier_policy_out_of_bounds_does_not_stay(program: Path) -> None:
         assert (plan_one(question, str(program)).undamped is not None) == stays
 
 
-@pytest.mark.parametrize(
-    "changed", [{}, {"leads": (1, 3, 2)}], ids=["one lead time", "several"]
-)
-def test_orders_that_are_rounded_up(
-    changed: dict[str, Any], program: Path, monkeypatch: pytest.MonkeyPatch
-) -> None:
-    """Rounding orders up to packs adds what a Markov chain says, but for the error of a run. If demand comes in whole
-    packs, it adds nothing."""
-    question = asked(Bounds(pack=7), **changed)
-    answer, remarks = answer_of(question, program)
-    scenario = question.scenario().with_policies(
-        [Policy("chosen", *answer.chosen.levels)]
-    )
-    plain, period = chain.by_chain(scenario)[0], chain.period
-
-    def rounded(
-        state: chain.State, policy: Policy, *drawn: int
-    ) -> tuple[chain.State, chain.Counted]:
-        position = sum(state)
-        upper = position - (position - policy.S) // 7 * 7
-        return period(state, replace(policy, S=upper), *drawn)
-
-    monkeypatch.setattr(chain, "period", rounded)
-    more = (chain.by_chain.__wrapped__(scenario)[0] - plain) / float(question.scale)
-    cost = remarks["rounded orders"]["cost"]
-    assert more > 1
-    assert cost == pytest.approx(more, abs=0.2)
-    whole = asked(Bounds(pack=7), counts=tuple(7 * count for count in SEEN))
-    assert "rounded orders" not in answer_of(whole, program)[1]
-
-
 def test_deeper_looks_respect_the_bounds(program: Path) -> None:
     """All suggested policies but today's are within the bounds, and so is the best of each case, the decision without
     the largest periods, and the best of each law, beside which nothing is cheaper."""
-    question = asked(Bounds(3, 7, 3, Fraction(30)), counts=(*SEEN, 40), **DEAR)
+    question = asked(Bounds(3, 20, 3, Fraction(30)), counts=(*SEEN, 40), **DEAR)
     depth = Depth(question, plan_one(question, str(program)), str(program), laws=4)
     feasible = question.theory.feasible
     own = {(policy.s, policy.S) for policy in depth.policies} - {(0, 90)}
@@ -398,11 +366,11 @@ def test_deeper_looks_respect_the_bounds(program: Path) -> None:
     moves = {(move.s, move.S) for move in depth.moves.moves}
     assert len(moves) > 3
     for s, S in moves:
-        assert s % 3 == S % 3 == 0
-        assert S - s >= 6
+        assert S - s >= 19
         assert s >= 3
     assert depth.without
-    assert depth.without.rare.point % 3 == depth.without.rare.level % 3 == 0
+    rare = depth.without.rare
+    assert rare.level - rare.point >= 19
     free = asked(counts=question.item.counts, **DEAR)
     doubts = [
         depth.doubt,
@@ -425,7 +393,7 @@ def test_bounds_of_a_catalogue(crnplan: Command, tmp_path: Path, program: Path) 
     words = f"""catalogue {tmp_path}/demand.csv {tmp_path}/items.csv --out {tmp_path}/plan --config {tmp_path}/mine.toml
         --order-min 3 --s-min 2 --jobs 1 --program {program}"""
     answer = crnplan(*words.split())
-    decisions = rows_of(tmp_path / "plan/decisions.csv")
+    decisions = whole_rows(tmp_path / "plan")
     with planned_folder(tmp_path / "plan") as plan:
         settings = plan.settings
     assert (settings.order_min, settings.max_coverage, settings.s_min) == (3, 8, 2)
@@ -448,14 +416,6 @@ def test_other_bounds_are_a_reason() -> None:
     )
     (remark,) = masters_of(old, new, (3, 9))
     assert sentence(remark) == "pack 1 to 4, coverage none to 4.5"
-
-
-def test_bounds_of_settings(tmp_path: Path) -> None:
-    """The bounds of one item stand in its settings."""
-    for name, text in CASES["item"].items():
-        (tmp_path / name).write_text(text, "utf-8")
-    item = read_item(tmp_path / "history.csv", tmp_path / "settings.toml").item
-    assert item.bounds == Bounds(3, 6, 2, Fraction(30), Fraction(20))
 
 
 @pytest.mark.parametrize("bounds, size", CASES["candidates"], ids=str)

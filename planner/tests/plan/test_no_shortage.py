@@ -2,7 +2,6 @@
 own, and in what is read, refused, shown and counted."""
 from __future__ import annotations
 
-import re
 from fractions import Fraction
 from pathlib import Path
 from typing import Any
@@ -16,13 +15,13 @@ from crnplan.plan.answer import BOUNDED, SERVICE, Answer
 from crnplan.plan.backtest.smoothing import wanted_share
 from crnplan.plan.choice import choice_of
 from crnplan.plan.one import plan_one
-from crnplan.plan.question import NoPolicy, Question, question_of
+from crnplan.plan.question import Question, question_of
 from crnplan.plan.what_ifs import cases_of
 from crnplan.read.bounds import Bounds
 from crnplan.remarks import Remark
 from crnplan.words import sentence
-from planner.tests.conftest import Command
 from planner.tests.plan.items import SHORT, alone, item_of, tables_of
+from planner.tests.planned_tables import whole_frame
 
 WANTED = Fraction(19, 20)
 GOAL: dict[str, Any] = {"backlog": None, "no_shortage": WANTED}
@@ -159,7 +158,7 @@ def plan(program: Path) -> crn.Plan:
 
 def test_decisions_and_pages(plan: crn.Plan, tmp_path: Path) -> None:
     """Wanted and met stand beside each other where such a share is wanted; counts, pages and the workbook say it."""
-    rows = plan.decisions.set_index("item")
+    rows = whole_frame(plan).set_index("item")
     goals = rows.iloc[:3]
     assert goals.no_shortage_wanted.tolist() == [0.95, 0.9, 0.99]
     assert (goals.no_shortage_chosen >= goals.no_shortage_wanted).all()
@@ -174,14 +173,13 @@ def test_decisions_and_pages(plan: crn.Plan, tmp_path: Path) -> None:
     assert f"no shortage wanted in a share of weeks: {said}" in plan.text
     page = plan.report(["I-000"]).read_text("utf-8")
     assert "For 3 items a share of weeks is wanted that end with nothing owed" in page
-    assert "no shortage wanted" in page
     item = plan.item("I-000")
     assert "In 95% of weeks nothing is to be owed at the end." in item.text
     met = rows.no_shortage_chosen["I-000"]
     said = " ".join(item.text.split())
     assert f"the chosen policy has no shortage in {met:.1%} of weeks" in said
     plan.to_excel(tmp_path / "plan.xlsx")
-    sheet = pd.read_excel(tmp_path / "plan.xlsx", "Decisions")
+    sheet = pd.read_excel(tmp_path / "plan.xlsx", "Details")
     assert sheet.no_shortage_wanted.dropna().tolist() == [0.95, 0.9, 0.99]
 
 
@@ -189,7 +187,7 @@ def test_planned_by_itself(program: Path, plan: crn.Plan) -> None:
     """Items with such a goal have the same policy beside others that are planned together, and that is counted."""
     both = crn.plan(*made(), program=program, together=0.9, **WORDS)
     names = ["item", "s_chosen", "S_chosen", "cost_chosen", "no_shortage_chosen"]
-    assert both.decisions[names][:3].equals(plan.decisions[names][:3])
+    assert whole_frame(both)[names][:3].equals(whole_frame(plan)[names][:3])
     assert both.totals.shared.total() == 2 and both.totals.by_periods == 3
     assert "; each is planned by itself, without a correction\n" in both.text
     assert plan.curve().frame.shape[0] > 0
@@ -201,7 +199,7 @@ def test_a_default_for_items_without_a_goal(program: Path) -> None:
     masters.loc[3, "fill"] = None
     words = {**WORDS, "service": {"a": "90%"}}
     done = crn.plan(sales, masters, no_shortage="97%", program=program, **words)
-    rows = done.decisions
+    rows = done.details
     # Those of class a, every second one, want its fill rate.
     assert rows.no_shortage_wanted[1::2][:2].tolist() == [0.97, 0.97]
     assert rows.no_shortage_wanted[[0, 2, 4, 5]].isna().all()
@@ -230,27 +228,3 @@ def test_rows_that_are_refused() -> None:
     assert "may be 0.95% or 95%" in read.rejects.reason[0]
     masters = made()[1].rename(columns={"no_shortage": "cycle service level"})
     assert len(crn.read_catalogue(sales, masters).rejects) == 3
-
-
-def test_one_item_by_its_settings(
-    tmp_path: Path, crnplan: Command, program: Path
-) -> None:
-    """[run] no_shortage is the goal of crnplan item; beside a fill it is refused."""
-    item = item_of(0)
-    rows = "\n".join(map(str, item.counts))
-    (tmp_path / "history.csv").write_text(f"demand\n{rows}\n")
-    settings = (
-        '[history]\ndemand = "demand"\n[lead]\ntimes = [2]\n[costs]\nsetup = 20\n'
-        "holding = 0.55\n[today]\ns = 1\nS = 9\nstock = 3\n[run]\nno_shortage = 0.95\n"
-    )
-    (tmp_path / "settings.toml").write_text(settings)
-    words = f"item {tmp_path}/history.csv {tmp_path}/settings.toml --out {tmp_path}/plan --program {program}"
-    told = crnplan(*words.split())
-    assert told.status == 0, told.errors
-    met = re.search(
-        r"policy has no shortage in ([\d.]+)% of periods", " ".join(told.output.split())
-    )
-    assert met and float(met[1]) >= 95
-    (tmp_path / "settings.toml").write_text(settings + "fill = 0.9\n")
-    told = crnplan(*words.split())
-    assert told.status == 2 and "a fill rate is wanted, and a share of" in told.errors

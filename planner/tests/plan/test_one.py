@@ -74,9 +74,11 @@ def test_costs_are_those_of_theory(program: Path, changed: dict[str, Any]) -> No
 def test_laws_are_kept(program: Path) -> None:
     """An answer has the laws by which it was planned: as they were seen, if they are fitted so."""
     item = item_of(
-        4, leads=(1, 3, 3), returns=tuple(count // 2 for count in item_of(4).counts)
+        4,
+        leads=(1, 3, 3) * 7,  # so many that they are taken as they are
+        returns=tuple(count // 2 for count in item_of(4).counts),
     )
-    laws = answer_of(item, alone(fit="empirical", lead_fit="empirical"), program).laws
+    laws = answer_of(item, alone(fit="empirical"), program).laws
     assert laws.box == 1
     assert laws.lead.chances == {1: 1 / 3, 3: 2 / 3}
     assert laws.returns
@@ -123,11 +125,11 @@ def test_costs_are_those_of_the_run_where_theory_is_rounded(
     [
         (
             {"demand": Law((1, 10_001), (1, 1))},
-            "demand, key values, entry 2: 10001 is not from 0 to 10,000",
+            r"\[demand\] values, entry 2: 10001 is not from 0 to 10,000",
         ),
         (
             {"item": item_of(levels=(4, 1_000_001))},
-            "key S: 1000001 is not from 0 to 1,000,000",
+            r"\[policy\] entry 1, S: 1000001 is not from 0 to 1,000,000",
         ),
     ],
     ids=["demand", "levels"],
@@ -313,7 +315,9 @@ def test_remarks(program: Path) -> None:
     assert 0 < float(remark.facts["orders"] or 0) < 2
     assert answer.verdict == CHEAPER
     answer = answer_of(
-        item_of(unit=Fraction(9_000), holding=Fraction(1), backlog=Fraction("2.55")),
+        item_of(
+            setup=Fraction(90_000_000), holding=Fraction(1), backlog=Fraction("2.55")
+        ),
         alone(),
         program,
     )

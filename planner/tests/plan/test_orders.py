@@ -206,11 +206,11 @@ def test_orders_of_files_by_supplier(
     monkeypatch.chdir(tmp_path)
     folder = made_folder(tmp_path / "plan", 60, has_curve=False)
     decisions = crn.open_plan(folder).decisions
-    pd.DataFrame({"item": decisions.item, "stock": decisions.s_chosen - 1}).to_csv(
+    pd.DataFrame({"item": decisions.item, "stock": decisions.s_chosen - 2}).to_csv(
         "stock.csv", index=False
     )
     pd.DataFrame(
-        {"item": decisions.item[:9], "quantity": 0, "due": "2026-11-20"}
+        {"item": decisions.item[:9], "quantity": 1, "due": "2026-11-20"}
     ).to_csv("open.csv", index=False)
     words = "--stock", "stock.csv", "--on-order", "open.csv", "--date", "2026-11-27"
     answer = crnplan("today", folder, *words, "--out", "out")

@@ -14,6 +14,7 @@ from crnplan.plan.one import plan_one
 from crnplan.read.overrides import DO_NOT_ORDER, SET_LEVELS, Override
 from planner.tests.conftest import Command, cases_beside, rows_of
 from planner.tests.plan.test_bounds import asked, figures_of
+from planner.tests.planned_tables import whole_frame, whole_rows
 
 CASES = cases_beside(__file__)
 MONDAY = datetime.date(2024, 1, 1)
@@ -77,7 +78,7 @@ def plan_of(
 
 def set_in(plan: crn.Plan) -> dict[str, tuple[object, ...]]:
     """Returns what is set in a plan by item: its kind, s, S and the reason."""
-    rows = plan.decisions.set_index("item")[
+    rows = whole_frame(plan).set_index("item")[
         ["override", "s_override", "S_override", "override_reason"]
     ]
     return {
@@ -91,7 +92,7 @@ def test_levels_of_a_planner(program: Path) -> None:
     """What a planner sets is shown with what it costs beside the chosen policy, and is ordered by. What is not to be
     ordered is in no sum and no order."""
     free, plan = plan_of(program), plan_of(program, SET)
-    before, rows = free.decisions.set_index("item"), plan.decisions.set_index("item")
+    before, rows = (whole_frame(it).set_index("item") for it in (free, plan))
     assert set_in(free) == {}
     assert set_in(plan) == {
         "A": (SET_LEVELS, 5, 17, "agreed with sales"),
@@ -227,11 +228,11 @@ def test_overrides_by_the_command(
     files = tmp_path / "demand.csv", tmp_path / "items.csv"
     words = f"--overrides {tmp_path}/set.csv --out {tmp_path}/plan --jobs 1 --to {END} --program {program}"
     assert crnplan("catalogue", *files, *words.split()).status == 0
-    row = rows_of(tmp_path / "plan/decisions.csv")["A"]
+    row = whole_rows(tmp_path / "plan")["A"]
     assert (row["s_override"], row["S_override"]) == ("5", "17")
     assert float(row["cost_override"]) > 0
     out = rows_of(tmp_path / "plan/rejects.csv", kind="item")["Z"]
     assert (out["file"], out["line"]) == ("set.csv", "5")
     page = (tmp_path / "plan/report.html").read_text("utf-8")
-    assert "s override" in page
+    assert "override" in page
     assert "its planner has set (5, 17): agreed with sales" in page

@@ -26,6 +26,7 @@ from crnplan.read.bounds import Bounds
 from crnplan.words import sentence
 from planner.tests.plan.items import SHORT, alone, item_of, tables_of
 from planner.tests.plan.test_seasons import answered as in_season
+from planner.tests.planned_tables import whole_frame
 
 PERIODS = 80_000
 FILL: dict[str, Any] = {"backlog": None, "fill": Fraction(19, 20)}
@@ -166,7 +167,7 @@ def plan(program: Path) -> crn.Plan:
 
 def test_decisions_pages_and_sums(plan: crn.Plan, tmp_path: Path) -> None:
     """Items without a run are counted, none is shown for them, and they have no page of their own."""
-    rows = plan.decisions.set_index("item")
+    rows = whole_frame(plan).set_index("item")
     assert rows.review[:2].tolist() == [4, 4] and pd.isna(rows.review.iloc[2])
     assert rows.by.tolist() == ["theory"] * 3
     runs = rows[["run_saving", "run_low", "run_high"]]
@@ -187,8 +188,6 @@ def test_decisions_pages_and_sums(plan: crn.Plan, tmp_path: Path) -> None:
     assert plan.item("I-002").text
     assert plan.curve(confirm=3).frame.shape[0] > 0
     plan.to_excel(tmp_path / "plan.xlsx")
-    exact = Path(plan.path / "exact.csv").read_text()
-    assert "I-002" in exact and "I-000" not in exact
 
 
 def test_other_ways_to_say_it(program: Path, plan: crn.Plan) -> None:
@@ -203,8 +202,8 @@ def test_other_ways_to_say_it(program: Path, plan: crn.Plan) -> None:
         (by_word, {"review": "28 days"}),
     ):
         done = crn.plan(sales, table, program=program, **WORDS, **words)
-        found = done.decisions.set_index("item")[names]
-        assert found[:2].equals(plan.decisions.set_index("item")[names][:2])
+        found = whole_frame(done)[names]
+        assert found[:2].equals(whole_frame(plan)[names][:2])
     assert "review: 2 items by the default" in done.text
 
 

@@ -207,7 +207,7 @@ def test_catalogues_with_stated_laws(
     asked = "catalogue", *files, "--borrow", "none", "--laws", tmp_path / "laws.csv"
     status, _, errors = crnplan(*asked, "--out", tmp_path / "two")
     assert status == 0 and "6 items planned, 0 kept" in errors
-    for name in ("decisions.csv", "exact.csv", "rejects.csv"):
+    for name in ("decisions.csv", "details.csv", "rejects.csv"):
         assert (tmp_path / "one" / name).read_bytes() == (
             tmp_path / "two" / name
         ).read_bytes()
@@ -244,5 +244,5 @@ def test_a_catalogue_of_laws_alone(program: Path) -> None:
         crn.plan(demand.head(0), masters, **words)
     words |= {"start": "2026-01-05", "end": "2026-11-22"}
     plan = crn.plan(demand.head(0), masters, **words)
-    assert [*plan.decisions.law] == [STATED] * 6
+    assert [*plan.details.law] == [STATED] * 6
     assert plan.orders_today(date="2026-11-23").frame.item.is_unique

@@ -171,10 +171,11 @@ def read(
 
 
 def test_status_of_items() -> None:
-    """A status comes before the record: what is stated to be active is planned, however long nobody asked for it."""
+    """What the record says counts whatever the status is, unless the status alone is to count."""
     items = read()
     assert {name: item.past for name, item in items.items()} == CASES["pasts"]
-    assert read(stopped="as-stated")["DEAD"].past == USUAL
+    stated = read(stopped="as-stated")
+    assert stated["DEAD"].past == stated["KEPT"].past == USUAL
     dead = next(
         remark
         for remark in items["DEAD"].remarks
@@ -188,9 +189,7 @@ def test_words_of_a_status(text: str, past: str) -> None:
     assert read(ACTIVE=text)["ACTIVE"].past == past
 
 
-@pytest.mark.parametrize(
-    "text", ["Z3", "01", "replaced by OLD", "remplacé par OLD", "?"]
-)
+@pytest.mark.parametrize("text", ["Z3", "01", "被OLD", "?"])
 def test_a_status_that_is_not_known(text: str) -> None:
     """What a text means is stated or refused, never guessed: the item is left out."""
     catalogue = crn.read_catalogue(*tables_of(ACTIVE=text, GONE=""))
@@ -221,6 +220,45 @@ def test_a_successor_takes_the_demand_of_a_chain() -> None:
     assert items["OLD"].first == items["YOUNG"].first < read(YOUNG="")["YOUNG"].first
 
 
+@pytest.mark.parametrize("before, behind", CASES["replaced"])
+def test_an_item_that_is_replaced(before: str, behind: str) -> None:
+    """Its demand goes to the item that replaces it, which may say so too."""
+    wanted = read(HEIR="", OUT="successor of ACTIVE")["OUT"]
+    for status in ("", "successor of ACTIVE"):
+        items = read(HEIR="", ACTIVE=f"{before} OUT{behind}", OUT=status)
+        assert items["OUT"].counts == wanted.counts
+        assert (items["ACTIVE"].past, items["OUT"].past) == ("phase out", "")
+
+
+def test_an_item_that_replaces_several() -> None:
+    """It has the demand of all of them, by pandas."""
+    items, (demand, _) = (
+        read(OLD="replaced by ACTIVE", HEIR="", YOUNG="replaced by ACTIVE"),
+        tables_of(),
+    )
+    rows = demand[demand["item"].isin(["OLD", "YOUNG", "ACTIVE"])]
+    assert sum(items["ACTIVE"].counts) == rows["quantity"].sum()
+
+
+def test_a_successor_that_is_not_there() -> None:
+    """An item that is replaced by one of which nothing is read is phased out, which is said."""
+    item = read(ACTIVE="replaced by XYZ")["ACTIVE"]
+    assert (item.past, item.remarks[-1].code) == ("phase out", "unknown successor")
+    assert item.remarks[-1].facts == {"item": "XYZ"}
+
+
+def test_a_successor_of_items_that_have_stopped() -> None:
+    """A successor has stopped if the demand of both has, and has not if that of one has."""
+    stopped = read(KEPT="successor of DEAD")["KEPT"]
+    assert (stopped.past, stopped.remarks[-1].code) == (
+        "stopped",
+        "asked for no longer",
+    )
+    items = read(ACTIVE="replaced by KEPT")
+    assert items["KEPT"].past == USUAL
+    assert "asked for no longer" not in [it.code for it in items["KEPT"].remarks]
+
+
 @pytest.mark.parametrize("status, said", CASES["successors"], ids=str)
 def test_successors_that_can_not_be_meant(status: dict[str, str], said: str) -> None:
     with pytest.raises(crn.Refused, match=said):
@@ -244,16 +282,16 @@ def test_what_has_stopped_is_not_ordered(program: Path) -> None:
     assert decisions.loc[[*ended], "verdict"].to_dict() == ended
     assert (decisions.loc[[*ended], ["s_chosen", "S_chosen"]] == 0).all(axis=None)
     ordered = decisions.drop([*ended])
-    assert {*ordered.index} == {"ACTIVE", "KEPT", "YOUNG"}
+    assert {*ordered.index} == {"ACTIVE", "YOUNG"}
     assert decisions.loc[[*ended], "saving"].isna().all()
     for name in ("saving", "cost_today", "cost_chosen", "value_today"):
         assert totals[name] == pytest.approx(ordered[name].sum(), rel=1e-9)
     assert totals["value_ended"] == 4 * (5 + 7)
-    assert totals.planned == 3
-    assert "8 named = 3 planned + 2 stopped + 3 phase out + 0 left out" in plan.text
+    assert totals.planned == 2
+    assert "8 named = 2 planned + 3 stopped + 3 phase out + 0 left out" in plan.text
     today = plan.orders_today(date=end + datetime.timedelta(1))
     orders = today.frame.set_index("item")
-    assert {*orders.index} == {"ACTIVE", "KEPT", "YOUNG", "OUT"}
+    assert {*orders.index} == {"ACTIVE", "YOUNG", "OUT"}
     # Packs of 2 that cover the 3 items owed.
     assert orders.loc["OUT", ["s", "S", "order", "placed", "chance"]].tolist() == [
         0,
@@ -268,7 +306,7 @@ def test_what_has_stopped_is_not_ordered(program: Path) -> None:
     assert stopped["value"].sum() == 4 * (5 + 7)
     assert stopped["owed"].to_dict()["GONE"] == 2
     assert (
-        "5 items, with stock worth 48.0, of which 1 item is owed to customers and not ordered"
+        "6 items, with stock worth 48.0, of which 1 item is owed to customers and not ordered"
         in today.text
     )
     assert {*today.dead["item"]} == {"DEAD", "OLD"}
@@ -288,5 +326,5 @@ def test_status_by_the_command(tmp_path: Path, crnplan: Command) -> None:
     words = "--status", "Z3=stopped", "--status", "ZZ=phase out", "--stopped"
     assert "items left out" not in crnplan(*check, *words, "as-stated").output
     assert "say what it means by --status ZZ=stopped" in crnplan(*check).output
-    said = "--status Z3=dead: a status is active, phase out or stopped"
+    said = "--status: Z3: 'dead' is not one of active, phase out, stopped"
     assert crnplan(*check, "--status", "Z3=dead").refuses(said)

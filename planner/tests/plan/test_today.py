@@ -19,8 +19,7 @@ from crnplan.plan.answer import Laws
 from crnplan.plan.standing import Standing
 from crnplan.plan.today import Group, Lying, Today, by_urgency, minimums_of
 from crnplan.read.bounds import Bounds
-from crnplan.read.defaults import Defaults
-from crnplan.read.items import Words
+from crnplan.read.items import Reading
 from crnplan.read.quiet import is_dead, quiet_periods
 from crnplan.read.stock import Arrival, OnHand
 from planner.tests.conftest import cases_beside
@@ -249,8 +248,8 @@ def test_least_order_values_of_suppliers() -> None:
         minimums_of(
             [*items, item_of(name="4", supplier="Bosch", supplier_min=Fraction(4))], {}
         )
-    with pytest.raises(crn.Refused, match="supplier_min: 'much' is no cost"):
-        Words(defaults=Defaults.of(supplier_min={"ABB": "much"}))
+    with pytest.raises(crn.Refused, match="supplier_min: ABB: 'much' is no cost"):
+        Reading(supplier_min={"ABB": "much"})
     with pytest.raises(
         crn.Refused, match="no item has this supplier; did you mean 'Bosch'?"
     ):

@@ -20,11 +20,12 @@ from crnplan.plan.answer import IDLE, Answer
 from crnplan.plan.catalogue import ANSWERS, PLANNED, planned_folder
 from crnplan.read.catalogue_reading import READ
 from crnplan.read.item import NO_DEMAND
-from crnplan.read.items import Words
+from crnplan.read.items import Reading
 from crnplan.remarks import Remark
 from crnplan.show.today_tables import OrderDays, orders_today
 from crnplan.store.stored import Store
 from planner.tests.conftest import Command
+from planner.tests.planned_tables import whole_frame
 from planner.tests.show.made_catalogue import made_folder, made_pair
 from planner.tests.plan.test_today import CASES, FRIDAY, days
 
@@ -83,7 +84,7 @@ def test_sums_by_pandas(
     """Orders and sums are those that pandas has from the decisions and both tables."""
     plan = crn.open_plan(folder)
     today = plan.orders_today(stock, on_order, FRIDAY)
-    table = positions_of(plan.decisions, stock, on_order)
+    table = positions_of(whole_frame(plan), stock, on_order)
     orders = today.frame.set_index("item")
     due, unknown = orders[orders.placed.notna()], orders[orders.placed.isna()]
     columns = ["stock", "owed", "position", "placed", "value"]
@@ -335,8 +336,8 @@ def test_days_of_one_plan(
         ({"stock": stock}, "2026-11-27"),
     ]
     with planned_folder(folder) as planned:
-        days_of_plan = OrderDays(planned, Words()).read()
+        days_of_plan = OrderDays(planned, Reading()).read()
     for tables, day in asked:
         orders = days_of_plan.orders(tables, day)
-        assert orders == orders_today(folder, tables, Words(), day)
-        assert orders.text == orders_today(folder, tables, Words(), day).text
+        assert orders == orders_today(folder, tables, Reading(), day)
+        assert orders.text == orders_today(folder, tables, Reading(), day).text

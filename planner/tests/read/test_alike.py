@@ -8,7 +8,7 @@ from typing import Any
 import pytest
 
 from crnplan.errors import RefusedFaults
-from crnplan.read.items import Words
+from crnplan.read.items import Reading
 from crnplan.read.stock import read_holdings
 from crnplan.catalogues import read_catalogue
 from planner.tests.read.alike import FORMS, Tables
@@ -42,7 +42,7 @@ def of_catalogue(given: dict[str, Any], words: dict[str, Any]) -> Any:
 def of_today(given: dict[str, Any], known: list[str], words: dict[str, Any]) -> Any:
     """Returns what is read of tables of today."""
     tables = {kind: given[kind] for kind in ("stock", "on_order")}
-    read = read_holdings(tables, Words(**words), dict.fromkeys(known))
+    read = read_holdings(tables, Reading(**words), dict.fromkeys(known))
     rejects = []
     for reject in sorted(read.rejects, key=lambda each: (each.column, each.line)):
         place = reject.kind, reject.line, reject.item, reject.column

@@ -9,9 +9,16 @@ from typing import Any
 import pytest
 
 import crnplan as crn
-from crnplan.items import decimals_of
 from crnplan.read.defaults import currency_of
-from planner.tests.read.catalogues import MASTER, but, cases_of, catalogue_of
+from planner.tests.read.catalogues import (
+    MASTER,
+    TODAY,
+    but,
+    cases_of,
+    catalogue_of,
+    demand_of,
+    masters_of,
+)
 
 CASES = cases_of("amounts")
 
@@ -51,6 +58,17 @@ def test_cells_that_are_rejected(
     assert said in rejects[0]
 
 
+def test_rounded_amounts_are_said_once() -> None:
+    """Two amounts of money have more decimals than are kept. A share and a lead time are no money."""
+    third = {"setup": "45.00", "holding": 1 / 3, "backlog": "", "fill": 0.123456789123}
+    masters = but("backlog") | {"price": 0.1 + 0.2}, third | {"lead (weeks)": 2 / 3}
+    tables = demand_of("A", "B"), masters_of(masters[0], masters[1])
+    read = crn.read_catalogue(*tables, fill=0.9, today=TODAY, jobs=1)
+    said = [line for line in read.said if "rounded" in line]
+    assert said == ["amounts of 2 cells of masters are rounded to 8 decimals"]
+    assert not len(read.rejects)
+
+
 @pytest.mark.parametrize("words, said", CASES["words"])
 def test_words_that_may_be_two(words: dict[str, Any], said: str) -> None:
     """Words are read as cells are."""
@@ -62,10 +80,3 @@ def test_words_that_may_be_two(words: dict[str, Any], said: str) -> None:
 @pytest.mark.parametrize("sign", ["$", "kr"])
 def test_a_sign_of_several_currencies_stays_a_sign(sign: str) -> None:
     assert currency_of(sign) == sign
-
-
-def test_decimals_of_costs_that_have_no_end() -> None:
-    """Costs have six decimals at most, and two at least."""
-    assert decimals_of([Fraction(1, 3), None]) == 6
-    assert decimals_of([Fraction(1, 8)]) == 3
-    assert decimals_of([Fraction(5)]) == 2

@@ -55,30 +55,6 @@ def test_arguments_of_a_call(name: str, value: str, spelt: str) -> None:
     )
 
 
-def test_one_fault_in_a_call_and_in_a_command(
-    crnplan: Callable[..., Any], tmp_path: Path
-) -> None:
-    """The same fault of the same table names what each caller can say."""
-    table = pd.DataFrame({"n": ["1,000", "2"]})
-    with pytest.raises(Refused, match="decides it; say decimal=. or decimal=,$"):
-        crn.read_history(table, demand="n")
-    path, settings = tmp_path / "n.csv", tmp_path / "settings.toml"
-    table.to_csv(path)
-    assert (
-        "say --decimal . or --decimal ,\n"
-        in crnplan("history", path, "--demand", "n").errors
-    )
-    settings.write_text(
-        '[history]\ndemand = "n"\n[lead]\ntimes = [2]\n[costs]\nsetup = 1\nholding = 1\nbacklog = 9\n'
-        "[today]\ns = 1\nS = 2\nstock = 3\n",
-        "utf-8",
-    )
-    errors = crnplan(
-        "item", path, settings, "--out", tmp_path / "item", "--program", "/bin/true"
-    ).errors
-    assert "say [history] decimal = . or [history] decimal = ,\n" in errors
-
-
 def test_rejects_in_a_call_and_in_a_command(
     crnplan: Callable[..., Any], tmp_path: Path
 ) -> None:

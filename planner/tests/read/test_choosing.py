@@ -9,7 +9,7 @@ import pytest
 
 import crnplan as crn
 from crnplan.read.choosing import Condition, conditions_of, use_of
-from crnplan.read.items import Words
+from crnplan.read.items import Reading
 from crnplan.read.stock import Holdings, read_holdings
 from crnplan.catalogues import Catalogue
 from crnplan.words import advised, sentence
@@ -143,7 +143,6 @@ def test_conditions() -> None:
     assert Condition.of("demand.Loc.=A=1") == ("demand", "Loc.", "A=1")
     assert Condition.of("Loc.x = 1") == ("", "Loc.x", "1")
     assert Condition.of("on_order.State=") == ("on_order", "State", "")
-    assert conditions_of(None) == ()
     assert conditions_of({"a": 1, "b": ["x", "y"]}) == ("a=1", "b=x", "b=y")
 
 
@@ -157,7 +156,7 @@ def holdings(folder: Path, **words: Any) -> Holdings:
     path, known = folder / "stock.csv", dict.fromkeys("AB")
     text = "item,stock,Warehouse\nA,1,Main\nA,2,North\nB,4,Main\nB,8,Main\n"
     path.write_text(text, "utf-8")
-    return read_holdings({"stock": path, "on_order": None}, Words(**words), known)
+    return read_holdings({"stock": path, "on_order": None}, Reading(**words), known)
 
 
 def on_hand(read: Holdings) -> dict[str, int]:

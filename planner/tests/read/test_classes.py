@@ -1,4 +1,4 @@
-"""Tests of classes of items by the value of demand and by its variation, against pandas; and of money in a currency."""
+"""Tests of classes of items by the value of demand, against pandas; and of money in a currency."""
 from __future__ import annotations
 
 from fractions import Fraction
@@ -8,7 +8,7 @@ import pandas as pd
 import pytest
 
 from crnplan.money import Currency
-from crnplan.read.classes import abc_of, xyz_of
+from crnplan.read.classes import abc_of
 from crnplan.read.defaults import cuts_of
 
 
@@ -45,25 +45,6 @@ def test_equal_values_have_one_class() -> None:
 
 def test_cuts_as_people_write_them() -> None:
     assert cuts_of("70, 90") == cuts_of((70, 90)) == (70, 90)
-
-
-@pytest.mark.parametrize(
-    "counts, letter",
-    [
-        ((0, 0), ""),
-        ((5, 5, 5), "X"),
-        ((1, 3), "X"),
-        ((1, 3, 0, 4), "Y"),
-        ((0, 2), "Y"),
-        ((0, 0, 3), "Z"),
-    ],
-)
-def test_classes_by_variation(counts: tuple[int, ...], letter: str) -> None:
-    """The standard deviation of the periods over their mean decides: (1, 3) has 0.5 and (0, 2) has 1."""
-    periods = pd.Series(counts)
-    variation = periods.std(ddof=0) / max(periods.mean(), 1e-9)
-    assert xyz_of(counts) == letter
-    assert not letter or letter == "XYZ"[int(variation > 0.5) + int(variation > 1)]
 
 
 @pytest.mark.parametrize(

@@ -7,7 +7,7 @@ from pathlib import Path
 import pytest
 
 from crnplan.errors import Refused
-from crnplan.read import read_history, workbooks
+from crnplan.read import workbooks
 from planner.tests.read.books import changed, with_rows, written
 from planner.tests.read.catalogues import cases_of
 from planner.tests.read.test_workbooks import cells_of
@@ -26,10 +26,10 @@ def test_a_damaged_sheet(old: str, new: str, said: str, tmp_path: Path) -> None:
     """A sheet whose rows or cells stand twice, or beyond what there can be, is refused: it may have lost some."""
     rows = [[amount, "x"] for amount in (3, 2, 1, 4, 5, 6)]
     path = written(tmp_path / "book.xlsx", [["demand", "note"], *rows])
-    assert read_history(path, demand="demand").counts == (3, 2, 1, 4, 5, 6)
+    assert cells_of(path)[1:] == [[str(amount), "x"] for amount in (3, 2, 1, 4, 5, 6)]
     changed(path, lambda text: text.replace(old, new, 1))
     with pytest.raises(Refused, match=said):
-        read_history(path, demand="demand")
+        cells_of(path)
 
 
 def test_most_cells_of_a_row(path: Path) -> None:
@@ -48,7 +48,7 @@ def test_other_files(name: str, begin: str, said: str, tmp_path: Path) -> None:
     data = begin.encode("latin-1") + bytes(600 * bool(begin))
     (tmp_path / name).write_bytes(data)
     with pytest.raises(Refused, match=f"{name}: .*{said}"):
-        read_history(tmp_path / name, demand="n")
+        cells_of(tmp_path / name)
 
 
 def test_every_cut_of_a_workbook_is_refused(path: Path) -> None:

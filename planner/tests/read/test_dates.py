@@ -12,14 +12,18 @@ from babel.dates import format_date
 
 import crnplan as crn
 from crnplan.errors import RefusedFaults
-from crnplan.read import read_history
 from crnplan.read.cells import Unreadable
 from crnplan.read.date_forms import day_of_serial
 from crnplan.read.dates import DateReader
-from crnplan.read.items import Words
+from crnplan.read.items import Reading
 from crnplan.read.stock import read_holdings
 from planner.tests.read.books import written
-from planner.tests.read.catalogues import cases_of, items_of, read_text
+from planner.tests.read.catalogues import (
+    cases_of,
+    items_of,
+    masters_of,
+    read_text,
+)
 
 Day = datetime.date
 Cells = Sequence[Day | str]
@@ -211,22 +215,13 @@ def test_half_read_dates_of_a_catalogue(tmp_path: Path) -> None:
 def test_half_read_dates_of_a_workbook(tmp_path: Path) -> None:
     """A sheet with real dates beside texts is read as such a file."""
     cells = [(cell, "yyyy-mm-dd") for cell in HALF_READ]
-    rows = [["date", "quantity"], *([cell, 1] for cell in cells)]
+    rows = [["item", "date", "quantity"], *(["A", cell, 1] for cell in cells)]
     path = written(tmp_path / "demand.xlsx", rows)
-    history = read_history(path, demand="quantity", date="date", every="month")
-    assert history.counts == (2, 4, 1)
-    assert history.periods == ("2025-08", "2025-09", "2025-10")
-    assert any("have day and month interchanged" in note.what for note in history.notes)
-
-
-def test_whole_months_of_a_history(tmp_path: Path) -> None:
-    """Rows by month are read if periods are months, which is said."""
-    path = tmp_path / "demand.csv"
-    path.write_text("month,sold\nJan 2025,5\nFeb 2025,7\n")
-    history = read_history(path, demand="sold", date="month", every="month")
-    assert history.counts == (5, 7)
-    said = "the dates are whole months, as 'Jan 2025'; the first day of each is taken"
-    assert history.notes[0].what == said
+    costs = {"setup": 45, "holding (per month)": 1, "backlog (per month)": 10}
+    masters = masters_of({**costs, "lead (months)": 1, "s": 3, "S": 9})
+    found = crn.read_catalogue(path, masters, every="month", least=1)
+    assert items_of(found)["A"].counts == (2, 4, 1)
+    assert any("have day and month interchanged" in said for said in found.said)
 
 
 def test_ends_of_a_record_are_days(tmp_path: Path) -> None:
@@ -243,7 +238,7 @@ def test_due_dates_are_read_as_others(tmp_path: Path) -> None:
     """The dates of what is on order may have names of months, and dates that a spreadsheet turned are said."""
     path, rows = tmp_path / "on_order.csv", "".join(f"A,1,{day}\n" for day in HALF_READ)
     path.write_text(f"item,quantity,due\nA,5,6-Jan-2025\n{rows}")
-    holdings = read_holdings({"on_order": path}, Words(), {"A": None})
+    holdings = read_holdings({"on_order": path}, Reading(), {"A": None})
     due = [arrival.due for arrival in holdings.arrivals["A"]]
     assert due == [Day(2025, 1, 6), *TRUE_DAYS]
     (reject,) = holdings.rejects

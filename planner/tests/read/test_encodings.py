@@ -6,13 +6,16 @@ from typing import Any
 
 import pytest
 
+from crnplan import read_catalogue
 from crnplan.errors import RefusedFaults
-from crnplan.read import read_history
 from crnplan.read.encodings import MOST_NAMED, is_mixed, likely_encodings
 from planner.tests.read.catalogues import (
+    MASTER,
+    TODAY,
     WEEKS,
     cases_of,
     items_of,
+    masters_of,
     read_text,
     weekly,
 )
@@ -35,15 +38,18 @@ def test_a_file_in_another_encoding(
     assert len({*likely.values()}) == len(likely) <= MOST_NAMED
     assert not is_first or next(iter(likely)) == right
     assert not is_only or len(likely) == 1
-    _, _, date, quantity = text.splitlines()[0].replace(";", ",").split(",")
-    words: dict[str, Any] = {"demand": quantity, "date": date, "every": "day"}
+    item, _, date, quantity = text.splitlines()[0].replace(";", ",").split(",")
+    names = {"item": item, "date": date, "quantity": quantity}
+    masters = masters_of(MASTER)
+    words: dict[str, Any] = {"columns": {"demand": names}, "today": TODAY}
     with pytest.raises(RefusedFaults) as refused:
-        read_history(path, **words)
+        read_catalogue(path, masters, **words)
     (fault,) = refused.value.faults
     assert fault.line == 1 and "is not UTF-8; say " in str(fault)
     for name, cell in likely.items():
         assert f"encoding={name}" in str(fault) and repr(cell) in str(fault)
-    assert sum(read_history(path, encoding=encoding, **words).counts) >= 8
+    found = read_catalogue(path, masters, encoding=encoding, **words)
+    assert found.controls.units[0] >= 8
 
 
 @pytest.mark.parametrize("encoding, heading, more", CASES["catalogues"])
@@ -56,8 +62,6 @@ def test_a_catalogue_in_another_encoding(
     named = f"say .*encoding={encoding.replace('latin-1', 'cp1252')}"
     with pytest.raises(RefusedFaults, match=named):
         read_text(tmp_path, data)
-    with pytest.raises(RefusedFaults, match=named):
-        read_history(tmp_path / "demand.csv", demand=heading.split(",")[2])
     item = items_of(read_text(tmp_path, data, encoding=encoding))["A"]
     assert item.counts == (2,) * WEEKS
 
@@ -67,7 +71,10 @@ def test_unicode_needs_no_word(tmp_path: Path, encoding: str) -> None:
     """UTF-8, and texts with a byte order mark, are read without a word."""
     path = tmp_path / "demand.csv"
     path.write_bytes(CASES["exports"][0][-1].encode(encoding))
-    assert read_history(path, demand="数量", date="日付", every="day").counts == (5, 6, 2)
+    names = {"item": "品目コード", "date": "日付", "quantity": "数量"}
+    columns = {"demand": names}
+    found = read_catalogue(path, masters_of(MASTER), columns=columns, today=TODAY)
+    assert found.controls.units[0] == 5 + 6 + 2
 
 
 def test_a_byte_that_no_text_has(tmp_path: Path) -> None:
@@ -77,7 +84,7 @@ def test_a_byte_that_no_text_has(tmp_path: Path) -> None:
     assert not likely_encodings(path.read_bytes())
     said = "the byte 0xb1 is not utf-8; say another encoding, or export the file as CSV in UTF-8"
     with pytest.raises(RefusedFaults, match=said):
-        read_history(path, demand="n")
+        read_catalogue(path, masters_of(MASTER))
 
 
 def test_half_a_letter_of_utf_16_far_down(tmp_path: Path) -> None:

@@ -1,11 +1,13 @@
 """Tests what stands behind a known heading: it is known too and counts, or the column is refused, and never dropped."""
 from __future__ import annotations
 
+from fractions import Fraction
 from pathlib import Path
 
 import pytest
 
 import crnplan as crn
+from crnplan.read.item import Item
 from planner.tests.conftest import Command
 from planner.tests.read.catalogues import (
     MASTER,
@@ -45,6 +47,57 @@ def test_unknown_words_behind_a_heading(heading: str, role: str, words: str) -> 
         item = items["A"]
         assert not rejects
         assert (item.price, item.stock, item.group) == (None, None, "")
+
+
+def fact_of(item: Item, role: str) -> float:
+    """Returns the fact of an item that a column of masters is."""
+    levels = item.levels or (0, 0)
+    facts = {"lead": item.leads[0], "S": levels[1], "order_min": item.bounds.order_min}
+    return float(facts[role] if role in facts else getattr(item, role))
+
+
+@pytest.mark.parametrize("heading, cell, role, value", CASES["consistent"])
+def test_units_that_say_one_thing(
+    heading: str, cell: str, role: str, value: str
+) -> None:
+    """Units of which one alone counts are read: an item, the year of a share, packs of a number."""
+    others = {} if role == "price" else {"price": "10"}
+    items, rejects = catalogue_of({**but(role, "price"), **others, heading: cell})
+    assert not rejects
+    assert fact_of(items["A"], role) == pytest.approx(eval(value))
+
+
+@pytest.mark.parametrize("heading, role, said, unit, value", CASES["several"])
+def test_several_units(
+    heading: str, role: str, said: str, unit: str, value: str
+) -> None:
+    """None of several units is dropped: they are said, and a stated one answers."""
+    others = {} if role == "price" else {"price": "10"}
+    cells = {**but(role, "price"), **others, heading: "12"}
+    with pytest.raises(crn.Refused) as refused:
+        catalogue_of(cells)
+    assert f"the heading {heading!r} of the {role} says {said}" in str(refused.value)
+    items, rejects = catalogue_of(cells, units={"items": {role: unit}})
+    assert not rejects
+    assert fact_of(items["A"], role) == pytest.approx(eval(value))
+
+
+@pytest.mark.parametrize("heading, number", CASES["thousands"])
+def test_prices_in_thousands(heading: str, number: str) -> None:
+    """A price of so many items is not taken for one in thousands, nor the other way round, until its unit is stated."""
+    cells = {**but("price"), heading: "12"}
+    with pytest.raises(crn.Refused) as refused:
+        catalogue_of(cells)
+    said = f"prices of {number} items, or money in units of {number}"
+    assert said in str(refused.value)
+    for unit, items_of_price in ((number, int(number)), ("item", 1)):
+        items, _ = catalogue_of(cells, units={"items": {"price": unit}})
+        assert items["A"].price == Fraction(12, items_of_price)
+
+
+def test_two_times_of_a_lead() -> None:
+    with pytest.raises(crn.Refused, match="says 'days' and 'weeks'"):
+        catalogue_of({**but("lead"), "Lead time (days/weeks)": "14"})
 
 
 @pytest.mark.parametrize("role", CASES["demand"])

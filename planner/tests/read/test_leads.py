@@ -188,7 +188,7 @@ def test_lateness_of_a_plan(tmp_path: Path, program: Path) -> None:
     sheet = openpyxl.load_workbook(tmp_path / "plan.xlsx")["Suppliers"]
     assert [cell.value for cell in sheet[2]][:4] == ["Bosch", 2, 7, 14]
     assert crn.plan(*made[:2], program=program, **OWN).lateness.empty
-    said = "lead_from=stock is not one of orders, masters, both"
+    said = "lead_from: 'stock' is not one of orders, masters, both"
     with pytest.raises(crn.Refused, match=said):
         crn.plan(*made, lead_from="stock", program=program, **OWN)
 

@@ -12,6 +12,7 @@ import pytest
 
 import crnplan as crn
 from crnplan.errors import Refused
+from planner.tests.planned_tables import whole_frame
 from planner.tests.read.catalogues import MASTER, items_of
 
 WEEKS = pd.date_range("2024-01-01", periods=104, freq="W-MON")
@@ -32,7 +33,7 @@ def plan(program: Path) -> crn.Plan:
 
 def test_a_plan_has_the_mean_of_the_known_weeks(plan: crn.Plan) -> None:
     """20 of 104 weeks are unknown. It is said, and the law has the mean that pandas gives."""
-    decision = plan.decisions.set_index("item").loc["A"]
+    decision = whole_frame(plan).set_index("item").loc["A"]
     law = plan.item("A").words.question.demand
     assert float(law.mean) == decision.demand == DEMAND.mean() == 3.25
     assert decision.periods == DEMAND.count() == 84
@@ -64,7 +65,6 @@ NUMBERS: dict[str, object] = {
     "Series": DEMAND,
     "periods": DEMAND.to_period("W-SUN"),
     "nullable": DEMAND.astype("Int64"),
-    "history": crn.History((*DEMAND,), (None,) * 104, (), (), None, 1),  # type: ignore[arg-type]
 }
 
 
@@ -92,10 +92,6 @@ REFUSED: dict[str, tuple[Callable[[], object], str]] = {
     "cost": (
         lambda: crn.Scenario.of([1], [1], **{**COSTS, "setup": NAN}),
         "costs: setup: nan is not an amount",
-    ),
-    "history": (
-        lambda: crn.read_history(pd.DataFrame({"n": DEMAND}), demand="n"),
-        "the cell is empty; write 0 where nothing was asked for, or say empty=unknown",
     ),
     "columns of items beside zeros": (
         lambda: crn.read_catalogue(DEMAND.to_frame().assign(B=DEMAND), MASTERS),

@@ -10,6 +10,7 @@ import pytest
 import crnplan as crn
 from planner.tests.conftest import Command
 from planner.tests.plan.items import SHORT
+from planner.tests.planned_tables import whole_frame
 from planner.tests.read.catalogues import (
     MASTER,
     MASTERS,
@@ -121,7 +122,7 @@ def test_plans_and_tests_of_the_past_take_the_table(program: Path) -> None:
     plan = crn.plan(
         demand, masters, **words, today=TODAY, borrow="none", program=program, **SHORT
     )
-    (row,) = plan.decisions.itertuples()
+    (row,) = whole_frame(plan).itertuples()
     assert "out of stock" in row.codes and "cut periods" in row.codes
     assert "in 3 of 3 periods out of stock 9 items were sold" in row.warnings
     past: dict[str, Any] = {"record": 20, "every": 4, "borrow": "none", "jobs": 1}

@@ -17,9 +17,9 @@ from crnplan.errors import Fault, RefusedFaults
 from crnplan.store.jobs import Workers
 from crnplan.read import sources
 from crnplan.read.blocks import Sizes
-from crnplan.read.columns import find_columns
+from crnplan.read.headings import find_columns
 from crnplan.read.filed import Part, read_tables
-from crnplan.read.items import Words
+from crnplan.read.items import Reading
 from crnplan.read.rows import Rows, rows_of
 from crnplan.read.opening import opened
 from crnplan.read.sources import Sheet
@@ -111,7 +111,7 @@ def in_ranges(
 ) -> tuple[list[Row], Sequence[Fault]]:
     """Returns the rows of a file that is read in ranges, by their lines, or what is wrong with it: as if it were read
     row by row."""
-    words = Words(delimiter=",", date_formats=("%Y-%m-%d",), encoding=encoding)
+    words = Reading(delimiter=",", date_formats=("%Y-%m-%d",), encoding=encoding)
     with tempfile.TemporaryDirectory() as room, mock.patch.object(
         sources, "HEAD_BYTES", HEAD
     ):
@@ -122,7 +122,7 @@ def in_ranges(
 
 
 def rows_in_ranges(
-    sheet: Sheet, room: Path, words: Words, sizes: Sizes
+    sheet: Sheet, room: Path, words: Reading, sizes: Sizes
 ) -> tuple[list[Row], Sequence[Fault]]:
     """Returns what `in_ranges` does."""
     sheets = {"demand": find_columns("demand", sheet, words)}

@@ -14,7 +14,7 @@ from crnplan.errors import RefusedFaults
 from crnplan.read import opening
 from crnplan.read.blocks import Sizes
 from crnplan.read.catalogue_reading import read_alone
-from crnplan.read.items import Words
+from crnplan.read.items import Reading
 from crnplan.read.several import open_tables
 from crnplan.catalogues import Catalogue, read_catalogue
 
@@ -64,7 +64,9 @@ def test_several_files_are_one_table(folder: Path) -> None:
 
 def test_what_concerns_no_row_names_the_pattern(folder: Path) -> None:
     """What is said of a table as a whole, at no line, is said of the pattern, and at a line of the file."""
-    with open_tables({"demand": folder / "demand-*.csv"}, Words(today=TODAY)) as sheets:
+    with open_tables(
+        {"demand": folder / "demand-*.csv"}, Reading(today=TODAY)
+    ) as sheets:
         assert sheets["demand"].at(0) == ("demand-*.csv", 0, "")
         assert sheets["demand"].at(3) == ("demand-1.csv", 3, "")
 
@@ -77,7 +79,7 @@ def test_rejects_name_the_file(folder: Path, jobs: int) -> None:
     tables = {"demand": folder / "demand-*.csv", "items": folder / "items.csv"}
     sizes = Sizes(200, 400, plain=0) if jobs > 1 else Sizes()
     rejects = Catalogue(
-        read_alone(folder / "plan", tables, Words(today=TODAY), jobs, sizes)
+        read_alone(folder / "plan", tables, Reading(today=TODAY), jobs, sizes)
     ).rejects
     assert [*zip(rejects.kind, rejects.file, rejects.line)] == [
         ("row", "demand-2.csv", 28),

@@ -11,7 +11,7 @@ import pandas as pd
 import pytest
 
 from crnplan.errors import RefusedFaults
-from crnplan.read.items import Words
+from crnplan.read.items import Reading
 from crnplan.read.quantities import Quantity
 from crnplan.read.stock import KINDS, Arrival, Holdings, OnHand, read_holdings
 from crnplan.catalogues import read_catalogue
@@ -43,7 +43,7 @@ def read(
         tables[kind] = folder / f"{kind}.csv" if lines else None
         if lines:
             (folder / f"{kind}.csv").write_text(f"{lines}\n", "utf-8")
-    return read_holdings(tables, Words(**words), dict.fromkeys("AB"))
+    return read_holdings(tables, Reading(**words), dict.fromkeys("AB"))
 
 
 def hand(stock: Fraction | int, owed: Fraction | int = 0) -> OnHand:
@@ -60,12 +60,12 @@ def test_headings_of_stock(tmp_path: Path, heading: str) -> None:
 @pytest.mark.parametrize("kind", ["on_order", "placed"])
 @pytest.mark.parametrize("heading", CASES["on_order"])
 def test_headings_of_orders(tmp_path: Path, heading: str, kind: str) -> None:
-    """Orders that were placed since have the headings of what is on order, too."""
+    """Orders that were placed since have the headings of what is on order, too. Of a line with 0 nothing is to come."""
     lines = f"{heading}\nA;10;01.12.2026\nB;2;\nA;0;2026-12-01"
     holdings = read(tmp_path, **{kind: lines})
     assert holdings.on_hand is None
     assert holdings.arrivals == {
-        "A": [Arrival(Fraction(10), DUE), Arrival(Fraction(0), DUE)],
+        "A": [Arrival(Fraction(10), DUE)],
         "B": [Arrival(Fraction(2), None)],
     }
 
@@ -149,7 +149,7 @@ def test_frames_and_tables_that_cannot_be_read(tmp_path: Path) -> None:
     """A frame is read as a file. A missing column is refused, and two are never chosen between."""
     frame = pd.DataFrame({"sku": ["A", "B"], "on hand": [2.0, float("nan")]})
     tables = {"stock": frame, "on_order": None}
-    holdings = read_holdings(tables, Words(), dict.fromkeys("AB"))
+    holdings = read_holdings(tables, Reading(), dict.fromkeys("AB"))
     assert holdings.on_hand == {"A": hand(2)} and holdings.unread == {"B"}
     said = "no column looks like the stock; .* item, place"
     with pytest.raises(RefusedFaults, match=said):

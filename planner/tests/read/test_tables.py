@@ -7,16 +7,14 @@ import sys
 import time
 from collections.abc import Sequence
 from pathlib import Path
-from typing import Any
 
 import numpy as np
-import pandas as pd
 import pytest
 
 from crnplan.errors import Refused, RefusedFaults
-from crnplan.read import read_history, read_lead_times, sources
-from crnplan.read.columns import find_columns
-from crnplan.read.items import Words
+from crnplan.read import sources
+from crnplan.read.headings import find_columns
+from crnplan.read.items import Reading
 from crnplan.read.observed import sums_of
 from crnplan.read.opening import opened
 from crnplan.remarks import Remark
@@ -59,18 +57,18 @@ def test_frames() -> None:
 @pytest.mark.parametrize(
     "cell, said",
     [
-        (None, "the cell is empty"),
         (True, "'True' is not a number"),
         (MONDAY, "'2026-03-02' is not a number"),
         (float("inf"), "'inf' is not a number"),
     ],
 )
-def test_a_frame_of_a_history(cell: object, said: str) -> None:
-    frame = pd.DataFrame({"n": [3, 0, 2]}, dtype=object)
-    assert read_history(frame, demand="n").counts == (3, 0, 2)
-    frame.loc[1, "n"] = cell
-    with pytest.raises(RefusedFaults, match=f"history:3:1: .*{said}"):
-        read_history(frame, demand="n")
+def test_a_cell_of_a_frame(cell: object, said: str) -> None:
+    demand = demand_of("A").astype(object)
+    demand.loc[1, "quantity"] = cell
+    (reject,) = read_catalogue(
+        demand, masters_of(MASTER), today=TODAY
+    ).rejects.itertuples()
+    assert (reject.line, reject.column) == (3, "quantity") and said in reject.reason
 
 
 def test_a_column_has_one_role(tmp_path: Path) -> None:
@@ -135,17 +133,15 @@ def test_a_file_that_changes_is_refused(tmp_path: Path) -> None:
     path, heading = tmp_path / "demand.csv", "item,date,quantity\n"
     path.write_text(heading + TWOS, "utf-8")
     said = "demand.csv: the file was changed while it was read; run again"
-    with opened(path, "demand", Words()) as sheet:
-        rows = find_columns("demand", sheet, Words()).rows()
+    with opened(path, "demand", Reading()) as sheet:
+        rows = find_columns("demand", sheet, Reading()).rows()
         next(rows)
         path.write_text(heading + weekly([3] * (WEEKS - 1)), "utf-8")
         with pytest.raises(Refused, match=said):
             list(rows)
-        with pytest.raises(Refused, match=said):
-            sheet.texts({3})
         path.unlink()
         with pytest.raises(Refused, match="demand.csv: No such file"):
-            list(find_columns("demand", sheet, Words()).rows())
+            list(find_columns("demand", sheet, Reading()).rows())
 
 
 @pytest.mark.serial
@@ -188,52 +184,40 @@ def test_twins_are_counted(
 def test_a_return_belongs_to_the_sale_that_it_undoes(
     amounts: list[int], week: int, amount: int, counts: list[int], tmp_path: Path
 ) -> None:
-    """With net an amount below 0 is taken off the last earlier periods that have enough, by a catalogue as by a
-    history."""
+    """With net an amount below 0 is taken off the last earlier periods that have enough."""
     rows = weekly(amounts + [2] * WEEKS) + f"A,{day_of(week, 1)},{amount}\n"
-    catalogue, path = read_text(tmp_path, rows, net=True), tmp_path / "demand.csv"
-    words: dict[str, Any] = {"demand": "quantity", "date": "date", "every": "week"}
+    catalogue = read_text(tmp_path, rows, net=True)
     if counts:
-        history = read_history(path, net=True, **words)
-        assert history.counts == (*counts, *[2] * WEEKS)
-        assert items_of(catalogue)["A"].counts == history.counts
+        assert items_of(catalogue)["A"].counts == (*counts, *[2] * WEEKS)
     else:
         rejects = catalogue.rejects
         assert [*rejects.line] == [rows.count("\n") + 1] and not items_of(catalogue)
         assert "less was asked for before" in rejects.reason[0]
-        said = "-14 is more than was asked for up to week 2026-W12"
-        with pytest.raises(RefusedFaults, match=said):
-            read_history(path, net=True, **words)
 
 
 @pytest.mark.parametrize("heading, every, leads, said", CASES["leads"])
 def test_units_of_lead_times(
-    heading: str, every: str, leads: list[int], said: str, tmp_path: Path
+    heading: str, every: str, leads: list[int], said: str
 ) -> None:
-    """Lead times of one item are converted too."""
-    path = tmp_path / "leads.csv"
-    path.write_text(f"{heading}\n14\n10\n", "utf-8")
-    read = read_lead_times(path, lead=heading, every=every or None)
-    assert [*read.counts] == leads and bool(read.notes) == bool(said)
-    assert said in " ".join(map(str, read.notes))
+    """Lead times are converted from the unit in their heading."""
+    costs = {"setup": 45, f"holding (per {every})": 1, f"backlog (per {every})": 10}
+    masters = masters_of({**costs, heading: "14; 10", "s": 3, "S": 9})
+    columns = {"items": {"lead": heading}}
+    words = {"columns": columns, "every": every, "today": TODAY}
+    read = read_catalogue(demand_of("A"), masters, **words)
+    assert [*items_of(read)["A"].leads] == leads
+    assert said in " ".join(read.said)
 
 
 @pytest.mark.parametrize("heading, factor", CASES["packs"])
 def test_units_of_demand(heading: str, factor: int, tmp_path: Path) -> None:
-    """Numbers of packs are converted in a history as in a catalogue, whether its rows have dates or not."""
+    """Numbers of packs are converted."""
     amounts, columns = [1, 2, 3] * 5, {"demand": {"quantity": heading}}
     units = {"demand": {"quantity": "item"}} if factor == 1 else {}
     data = f"item,date,{heading}\n{weekly(amounts)}".encode()
     catalogue = read_text(tmp_path, data, columns=columns, units=units)
     counts: Sequence[int] = [factor * amount for amount in amounts]
     assert [*items_of(catalogue)["A"].counts] == counts
-    said = f"column '{heading}': quantity: converted from packs of {factor} to items"
-    dated: dict[str, Any] = {"date": "date", "every": "week"}
-    for words in ({}, dated):
-        history = read_history(tmp_path / "demand.csv", demand=heading, **words)
-        assert [*history.counts] == counts
-        notes = [note for note in history.notes if said in str(note)]
-        assert bool(notes) == (factor > 1)
 
 
 @pytest.mark.parametrize("item, more", [("A", ",x,y"), ("", "")])
@@ -243,7 +227,3 @@ def test_a_rejected_row_decides_nothing(item: str, more: str, tmp_path: Path) ->
     rejects = read_text(tmp_path, rows).rejects
     doubtful = rejects[rejects.reason.str.contains("may be 1000 or 1")]
     assert [*doubtful.line] == [WEEKS + 2]
-    if more:
-        said = "'1,000' may be 1000 or 1, and no other number decides"
-        with pytest.raises(RefusedFaults, match=said):
-            read_history(tmp_path / "demand.csv", demand="quantity")

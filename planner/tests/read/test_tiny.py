@@ -75,36 +75,6 @@ def test_tiny_catalogues(
     assert not catalogue.missing
 
 
-@settings(max_examples=100)
-@given(
-    ROWS,
-    EVERY,
-    st.booleans(),
-    st.sampled_from(["auto", "predictive", "empirical", "poisson"]),
-    st.sampled_from([1, 3]),
-)
-def test_tiny_histories(
-    rows: list[tuple[str, int, int]], every: str, whole: bool, method: str, box: int
-) -> None:
-    """A history of a few rows is checked and fitted, or refused."""
-    try:
-        history = crn.read_history(
-            table_of(rows),
-            demand="quantity",
-            date="date",
-            every=every,
-            whole=whole,
-            net=True,
-        )
-        assert crn.check_history(history).lines is not None
-        law = crn.fit_demand(history, method=method, box=box)
-    except Refused as why:
-        assert str(why)
-        return
-    assert sum(history.counts) == sum(amount for *_, amount in rows) or whole
-    assert law.toml("demand")
-
-
 @settings(max_examples=25)
 @given(ROWS, st.sampled_from([1, 13]))
 def test_tiny_plans(

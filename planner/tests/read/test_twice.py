@@ -12,7 +12,7 @@ import pytest
 import crnplan as crn
 from crnplan.read.blocks import Sizes
 from crnplan.read.catalogue_reading import read_alone
-from crnplan.read.items import Words
+from crnplan.read.items import Reading
 from crnplan.catalogues import Catalogue
 
 TODAY = datetime.date(2026, 11, 26)
@@ -49,7 +49,7 @@ def write(
 def read(
     folder: Path, tables: dict[str, Path], sizes: Sizes = Sizes(), **words: Any
 ) -> Catalogue:
-    asked = Words(today=TODAY, **words)
+    asked = Reading(today=TODAY, **words)
     return Catalogue(read_alone(folder / "plan", tables, asked, 1, sizes))
 
 

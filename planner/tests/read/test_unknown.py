@@ -22,7 +22,6 @@ from crnplan.plan.question import question_of
 from crnplan.read.catalogue_reading import Catalogued
 from crnplan.read.item import Item
 from crnplan.read.successors import summed
-from planner.tests.conftest import Command
 from planner.tests.plan.items import alone, item_of
 from planner.tests.read.catalogues import (
     MASTER,
@@ -65,6 +64,34 @@ def test_a_week_without_a_quantity_is_unknown() -> None:
     (reject,) = read.rejects.itertuples()
     assert reject.kind == "suspicious" and "lines 5, 6, 19" in reject.reason
     assert read.counts["files"]["demand"]["used"] == 26 and not read.missing
+
+
+@pytest.mark.parametrize("text", ["~30", "1,234", "2.5", "-3"])
+def test_a_week_with_a_quantity_that_is_not_read_is_unknown(text: str) -> None:
+    """Its row is rejected, its item warns, and what is in no sum is counted."""
+    demand = demand_of("A").astype({"quantity": object})
+    demand.loc[GAPS, "quantity"] = text
+    read = crn.read_catalogue(demand, masters_of(MASTER), today=TODAY, empty="none")
+    item = items_of(read)["A"]
+    others = [2 + week % 3 for week in range(26) if week not in GAPS]
+    assert (item.unknown, item.known.counts) == ((*GAPS,), (*others,))
+    assert [remark.code for remark in item.remarks] == ["unknown periods"]
+    assert read.counts["files"]["demand"]["rejected"] == 3 and not read.missing
+    assert "in no sum: 3 that can't be read" in str(read.said)
+
+
+def test_rows_of_a_day_that_is_not_read() -> None:
+    """They are in no week, which their item and the catalogue say, with how much was asked for."""
+    demand = demand_of("A")
+    demand.loc[GAPS, "date"] = "2026-02-30"
+    read = crn.read_catalogue(demand, masters_of(MASTER), today=TODAY)
+    item = items_of(read)["A"]
+    lost = demand.quantity[GAPS].sum()
+    assert item.unknown == () and sum(item.counts) == demand.quantity.sum() - lost
+    (remark,) = item.remarks
+    assert remark.code == "undated rows"
+    assert remark.facts == {"rows": 3, "items": lost, "every": "week", "of": 26}
+    assert f"and 3 whose date can't be read, with {lost} items" in str(read.said)
 
 
 def test_items_teach_by_known_periods_alone() -> None:
@@ -132,34 +159,6 @@ def test_zeros_beside_empty_cells_are_refused(tmp_path: Path) -> None:
     assert items_of(whole)["A"].counts == (0, 3)
 
 
-@pytest.mark.parametrize("words", [{}, {"date": "date", "every": "week"}])
-def test_a_history_of_one_item(words: dict[str, str]) -> None:
-    """A row without a demand is refused, unless it is stated to be unknown or none."""
-    frame = demand_of("A").astype({"quantity": float})
-    frame.loc[GAPS, "quantity"] = np.nan
-    named: dict[str, Any] = {"demand": "quantity", **words}
-    with pytest.raises(RefusedFaults, match="say empty=unknown"):
-        crn.read_history(frame, **named)
-    history = crn.read_history(frame, **named, empty="unknown")
-    known = frame.quantity.dropna().astype(int)
-    assert history.unknown == (3, 4, 17) and len(history.counts) == 26
-    assert history.series().isna().sum() == 3
-    assert "periods without a demand: 3 of 26" in history.notes[-1].message
-    assert crn.fit_demand(history) == crn.fit_demand(known)
-    nothing = dataclasses.replace(history, unknown=(*range(26),))
-    with pytest.raises(crn.Refused, match="demand: there are 0 numbers"):
-        crn.fit_demand(nothing)
-    none = crn.read_history(frame, **named, empty="none")
-    assert none.unknown == () and sum(none.counts) == known.sum()
-
-
-def test_blank_lines_of_a_column_are_periods() -> None:
-    """In a table of one column a period that is not known is a blank line."""
-    column = pd.DataFrame({"demand": [5, None, 0, 7, None, 2]})
-    history = crn.read_history(column, demand="demand", empty="unknown")
-    assert (history.counts, history.unknown) == ((5, 0, 0, 7, 0, 2), (1, 4))
-
-
 @pytest.mark.parametrize("missing", [None, np.nan, pd.NA])
 def test_numbers_that_are_missing(missing: Any) -> None:
     """Laws are fitted to the others, in any kind of sequence; lead times may not be missing."""
@@ -171,17 +170,8 @@ def test_numbers_that_are_missing(missing: Any) -> None:
     assert checks.periods == 28 and checks.notes[0].facts == {"count": 1, "periods": 29}
     with pytest.raises(crn.Refused, match="leads: entry 2"):
         crn.fit_lead([2, missing])
-
-
-def test_the_command_history_takes_the_word(crnplan: Command, tmp_path: Path) -> None:
-    """It says how to state what an empty cell means, and then how many there are."""
-    rows = "".join(f"{count},x\n" for count in [4, 6, "", 3, 0, 5, 7, 2, "", 8, 1] * 3)
-    (tmp_path / "h.csv").write_text(f"demand,note\n{rows}")
-    words = "history", tmp_path / "h.csv", "--demand", "demand"
-    status, _, errors = crnplan(*words)
-    assert status == 2 and "--empty unknown" in errors
-    status, _, errors = crnplan(*words, "--empty", "unknown")
-    assert status == 0 and "periods without a demand: 6 of 33" in errors
+    with pytest.raises(crn.Refused, match="demand: there are 0 numbers"):
+        crn.fit_demand([missing] * 3)
 
 
 @pytest.mark.parametrize("field", ["counts", "returns", "unknown", "first"])

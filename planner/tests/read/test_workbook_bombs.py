@@ -9,9 +9,9 @@ from pathlib import Path
 import pytest
 
 from crnplan.errors import Refused
-from crnplan.read import read_history, workbooks
+from crnplan.read import workbooks
 from crnplan.read.glance import glances
-from crnplan.read.items import Words
+from crnplan.read.items import Reading
 from planner.tests.read.test_workbooks import cells_of
 
 MAIN = "http://schemas.openxmlformats.org/spreadsheetml/2006/main"
@@ -73,7 +73,7 @@ def looks(path: Path) -> dict[str, list[list[str]]]:
     """Returns the first rows of a file by the kind of table, and without rows what is wrong."""
     return {
         look.kind: [[*row] for row in look.rows] or [[str(it) for it in look.faults]]
-        for look in glances(["demand", "items"], str(path), Words())
+        for look in glances(["demand", "items"], str(path), Reading())
     }
 
 
@@ -162,7 +162,7 @@ def test_shared_texts_are_read_as_far_as_cells_have_them(
     first = "<si><r><t>de</t></r><r><t>mand</t></r><rPh><t>x</t></rPh></si><si><t>3</t></si><si/>"
     rest = "<si><t>5</t></si>" * 10_000
     made(path, map(shared, (0, 1)), texts=[first, rest, "<si></x>"])
-    assert read_history(path, demand="demand").counts == (3,)
+    assert cells_of(path) == [["demand"], ["3"]]
     made(path, map(shared, (0, 1, 2, 3, 10_002)), texts=[first, rest])
     assert cells_of(path) == [["demand"], ["3"], [""], ["5"], ["5"]]
     for place, why in ((-1, "there is no shared text -1"), (10_003, "")):

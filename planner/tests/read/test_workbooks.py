@@ -9,11 +9,12 @@ from pathlib import Path
 from typing import Any
 
 import openpyxl
+import pandas as pd
 import pytest
 import xlsxwriter
 
 from crnplan.errors import Refused, RefusedFaults
-from crnplan.read import read_history, read_lead_times, workbooks
+from crnplan.read import workbooks
 from crnplan.read.cells import Shown
 from crnplan.read.number_formats import Format
 from crnplan.read.opening import opened
@@ -34,7 +35,7 @@ EURO = '#,##0.00\\ "€"'
 COLUMNS, ROW = HEADING.split(","), ["A", 45, 1, 10, 2, 3, 9]
 
 
-def cells_of(path: Path) -> list[list[str]]:
+def cells_of(path: str | Path) -> list[list[str]]:
     """Returns the texts of the cells of a sheet."""
     with opened(path, "items", Rules()) as sheet:
         return [
@@ -124,11 +125,19 @@ def test_rows_that_are_not_there(
     path = written(tmp_path / "book.xlsx", rows)
     monkeypatch.setattr(workbooks, "MOST_KNOWN", 1)
     rows[5] = [Shown("", "50", "%")]
-    with opened(path, "history", Rules()) as sheet:
+    with opened(path, "demand", Rules()) as sheet:
         assert [*sheet.rows()] == [*enumerate(rows, 1)]
         path.unlink()
         with pytest.raises(Refused, match="book.xlsx: No such file"):
             next(sheet.rows())
+
+
+@pytest.mark.parametrize("code, number", [("0-", 5), ("(0)", 5), ("0;0", -5)])
+def test_formats_that_show_another_sign(code: str, number: int, tmp_path: Path) -> None:
+    """An amount whose format shows another sign than it has is rejected."""
+    masters = [*COLUMNS, "stock"], ["A", 45, 1, 10, 2, 3, 9, (number, code)]
+    rejects = read(tmp_path, masters).rejects
+    assert [*rejects.column] == ["stock"] and "is not a number" in rejects.reason[0]
 
 
 def test_formats_that_refuse_masters(tmp_path: Path) -> None:
@@ -206,18 +215,22 @@ def test_a_formula_without_a_value(tmp_path: Path) -> None:
 def test_a_formula_that_is_computed_on_load(value: int, tmp_path: Path) -> None:
     """XlsxWriter gives formulas without a value a 0, and asks to compute them on load: it is none. One that was given
     counts, and so does a 0 in a workbook that a spreadsheet program has saved."""
-    path = tmp_path / "history.xlsx"
+    path, masters = tmp_path / "demand.xlsx", pd.DataFrame([ROW], columns=COLUMNS)
     with xlsxwriter.Workbook(path) as book:
         sheet = book.add_worksheet()
-        sheet.write_column(0, 0, ["demand", 3, 2])
-        sheet.write_formula(3, 0, "=A2+A3", None, value)
+        sheet.write_row(0, 0, ["item", "date", "quantity"])
+        for line, amount in enumerate((3, 2), 1):
+            sheet.write_row(line, 0, ["A", str(day_of(line)), amount])
+        sheet.write_row(3, 0, ["A", str(day_of(3))])
+        sheet.write_formula(3, 2, "=C2+C3", None, value)
     if not value:
-        said = "history.xlsx:4:1: the formula =A2.A3 was never computed"
+        said = "demand.xlsx:4:3: the formula =C2.C3 was never computed"
         with pytest.raises(RefusedFaults, match=said):
-            read_history(path, demand="demand")
+            read_catalogue(path, masters, today=TODAY, least=1)
         on_load = ' fullCalcOnLoad="1"'
         changed(path, lambda text: text.replace(on_load, ""), "xl/workbook.xml")
-    assert read_history(path, demand="demand").counts == (3, 2, value)
+    found = read_catalogue(path, masters, today=TODAY, least=1)
+    assert items_of(found)["A"].counts == (3, 2, value)
 
 
 def test_sheets_that_can_be_meant(tmp_path: Path) -> None:
@@ -228,25 +241,21 @@ def test_sheets_that_can_be_meant(tmp_path: Path) -> None:
         chart = book.add_chart({"type": "line"})
         chart.add_series({"values": "=data!$A$2:$A$3"})
         book.add_chartsheet("picture").set_chart(chart)
-    assert read_history(path, demand="demand").counts == (3, 2)
+    assert cells_of(path)[1:] == [["3"], ["2"]]
     said = "the sheet 'picture' is a chart and has no cells; the sheets with cells are: data"
     with pytest.raises(Refused, match=said):
-        read_history(f"{path}!picture", demand="demand")
+        cells_of(f"{path}!picture")
     with pytest.raises(Refused, match="there is no sheet 'dat'; the sheets are: data"):
-        read_history(f"{path}!dat", demand="demand")
+        cells_of(f"{path}!dat")
 
 
 def test_sheets_of_one_workbook(tmp_path: Path) -> None:
-    """Both tables of a catalogue may stand in one workbook, whose sheets are named. Lead times may stand in one too."""
+    """Both tables of a catalogue may stand in one workbook, whose sheets are named."""
     path = written(tmp_path / "all.xlsx", demand_rows(), [COLUMNS, ROW])
     both = read_catalogue(f"{path}!Sheet1", f"{path}!Sheet2", today=TODAY)
     assert items_of(both) == items_of(read(tmp_path, [COLUMNS, ROW]))
     with pytest.raises(Refused, match="the sheets are: Sheet1, Sheet2"):
         read_catalogue(path, path, today=TODAY)
-    leads = written(tmp_path / "leads.xlsx", [["lead"], [2], [3], ["x"]])
-    with pytest.raises(RefusedFaults) as fault:
-        read_lead_times(leads, lead="lead")
-    assert [(it.line, it.column) for it in fault.value.faults] == [(4, 1)]
 
 
 NAMED = [
@@ -269,13 +278,13 @@ def test_a_name_with_the_sign_before_a_sheet(
     with xlsxwriter.Workbook(path) as book:
         for name, count in ((sheet, 3), ("other", 5)):
             book.add_worksheet(name).write_column(0, 0, ["demand", count, 2])
-    assert read_history(f"{path}!{sheet}", demand="demand").counts == (3, 2)
-    assert read_history(f"{path}!other", demand="demand").counts == (5, 2)
+    assert cells_of(f"{path}!{sheet}")[1:] == [["3"], ["2"]]
+    assert cells_of(f"{path}!other")[1:] == [["5"], ["2"]]
     with pytest.raises(Refused, match="which sheet is meant is not clear"):
-        read_history(path, demand="demand")
+        cells_of(path)
     path.unlink()
     with pytest.raises(Refused) as why:
-        read_history(f"{path}!{sheet}", demand="demand")
+        cells_of(f"{path}!{sheet}")
     assert "there is no such file; looked for: " in str(why.value)
     assert str(path) in str(why.value).partition("looked for: ")[2]
 
@@ -283,15 +292,15 @@ def test_a_name_with_the_sign_before_a_sheet(
 def test_all_files_that_a_name_may_mean_are_looked_for(tmp_path: Path) -> None:
     """The longest name of a file is looked for first, and the text says of all."""
     with pytest.raises(Refused) as why:
-        read_history(f"{tmp_path}/a.xlsx!b.xlsm!c", demand="demand")
+        cells_of(f"{tmp_path}/a.xlsx!b.xlsm!c")
     said = f"looked for: {tmp_path}/a.xlsx!b.xlsm, {tmp_path}/a.xlsx; check"
     assert said in str(why.value)
     written(tmp_path / "a.xlsx", [["demand"], [3]])
     with pytest.raises(Refused, match="there is no sheet 'b.xlsm!c'"):
-        read_history(f"{tmp_path}/a.xlsx!b.xlsm!c", demand="demand")
+        cells_of(f"{tmp_path}/a.xlsx!b.xlsm!c")
     written(tmp_path / "a.xlsx!b.xlsm", [["demand"], [3]])
     with pytest.raises(Refused, match="there is no sheet 'c'"):
-        read_history(f"{tmp_path}/a.xlsx!b.xlsm!c", demand="demand")
+        cells_of(f"{tmp_path}/a.xlsx!b.xlsm!c")
 
 
 def test_hidden_rows_and_merged_cells(tmp_path: Path) -> None:
@@ -312,5 +321,3 @@ def test_hidden_rows_and_merged_cells(tmp_path: Path) -> None:
     rejects = catalogue.rejects[["line", "column", "reason"]].values.tolist()
     assert rejects == [[11, "item", "the item is missing"]]
     assert "demand.xlsx: 2 hidden rows are read like others" in catalogue.said
-    notes = [*map(str, read_history(path, demand="quantity").notes)]
-    assert sum("2 hidden rows are read like others" in note for note in notes) == 1

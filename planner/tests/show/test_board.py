@@ -24,6 +24,7 @@ from crnplan.read.item import NEW
 from crnplan.read.items import Reject
 from crnplan.remarks import Remark
 from planner.tests.conftest import cases_beside, shared
+from planner.tests.planned_tables import whole_table
 from planner.tests.show import made_catalogue
 from planner.tests.show.made_catalogue import (
     Pair,
@@ -67,8 +68,7 @@ def numbers(cell: str) -> list[float]:
 
 def sums_by_class(folder: Path) -> pd.DataFrame:
     """Returns by pandas the sums of each class, the fifth and later ones as others, and those of all."""
-    empty = {"value_today": "", "value_chosen": ""}
-    rows = pd.read_csv(folder / "decisions.csv", keep_default_na=False, na_values=empty)
+    rows = whole_table(folder).fillna({"class": ""})
     rows["asked"] = rows.value_today / rows.stock_today * rows.demand
     for policy in ("today", "chosen"):
         rows[f"met_{policy}"] = rows.asked * rows[f"fill_{policy}"]
@@ -410,7 +410,7 @@ def test_rows_that_were_read_are_counted_apart(
         reject_of("twins", {"count": 4, "lines": "3 to 6", "first": "2"}, 4),
         reject_of("several", both),
         reject_of("no number", number, 0),
-        reject_of("no lead", {}, 12, "item"),
+        reject_of("nothing of leads", {}, 12, "item"),
     ]
     assert [reason.group for reason in reasons_of([reject_of("several", outside)])] == [
         "read"

@@ -151,7 +151,7 @@ def test_totals(large: Path, large_page: Page) -> None:
     half = 1.959964 * math.sqrt(math.fsum((it.run.error or 0) ** 2 for it in answers))
     errors = [
         (float(row["run_high"]) - float(row["run_low"])) / 2 / QUANTILE
-        for row in rows_of(large / "decisions.csv")
+        for row in rows_of(large / "details.csv")
         if row["run_low"]
     ]
     assert half == pytest.approx(

@@ -9,15 +9,15 @@ from dataclasses import replace
 from fractions import Fraction
 from pathlib import Path
 
-import pandas as pd
 import pytest
 from hypothesis import given, strategies as st
 
 import crnplan as crn
-from crnplan.show.catalogue_page import clipped
+from crnplan.show.curves import clipped
 from crnplan.plan.answer import Answer
 from crnplan.plan.catalogue import ANSWERS
 from crnplan.store.stored import Store
+from planner.tests.planned_tables import whole_table
 from planner.tests.show.made_catalogue import (
     made_folder,
     made_pair,
@@ -48,7 +48,7 @@ def test_curve(large: Path, large_page: Page) -> None:
         assert (name.strip(), orders) == (point["name"], f"{point['orders']:g}")
         assert (value, fill) == (f"{point['value']:,.0f}", f"{point['fill']:.2%}")
         assert f"{fill} met at once with a stock of {value}" in said
-    assert 'y="0.0%">100</text>' in page.source
+    assert 'y="0.0%" dy=".32em">100%</text>' in page.source
     (path,) = re.findall(r'class="line of-chosen" d="M([^"]+)"', page.source)
     places = [tuple(map(float, it.split())) for it in path.split("L")]
     assert len(places) > 5
@@ -102,7 +102,7 @@ def test_no_curve(is_other: bool, said: str, tmp_path: Path) -> None:
     page = Page(crn.report(folder))
     assert said in page.words
     assert CURVE not in page.pictures
-    rows = pd.read_csv(folder / "decisions.csv")
+    rows = whole_table(folder)
     rows["asked"] = rows.value_chosen / rows.stock_chosen * rows.demand
     heading, *points = page.tables["Points that are known"]
     assert heading == ["point", "stock value", "met at once"]

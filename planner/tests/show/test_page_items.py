@@ -14,8 +14,10 @@ import crnplan as crn
 from crnplan.plan.answer import RUN, UNDECIDED
 from crnplan.plan.totals import Totals
 from crnplan.read.item import NO_DEMAND, STOPPED, Item
+from crnplan.read.overrides import SET_LEVELS, Override
 from crnplan.remarks import Remark
 from crnplan.show.page import templates
+from planner.tests.planned_tables import whole_rows
 from planner.tests.show.made_catalogue import (
     made_folder,
     made_pair,
@@ -27,14 +29,14 @@ from planner.tests.show.test_catalogue_page import summary_of
 
 
 def test_columns_and_texts(tmp_path: Path) -> None:
-    """Policies of items alone are shown if there are any. Each text keeps its blanks and signs."""
-    item, answer = made_pair(random.Random(1), "alone")
-    alone = replace(answer.chosen, point=7, level=19)
-    page = page_of(tmp_path / "plan", 5, change=(item, replace(answer, alone=alone)))
-    assert {"s_alone", "S_alone"} < set(page.columns)
+    """What planners have set is shown if there is any. Each text keeps its blanks and signs."""
+    item, answer = made_pair(random.Random(1), "set")
+    item = replace(item, override=Override(SET_LEVELS, 7, 19, ""))
+    page = page_of(tmp_path / "plan", 5, change=(item, answer))
+    assert "override" in page.columns
     assert {
-        name: its["S_alone"] for name, its in page.items.items() if its["S_alone"]
-    } == {"alone": "19"}
+        name: its["override"] for name, its in page.items.items() if its["override"]
+    } == {"set": SET_LEVELS}
     item, answer = made_pair(random.Random(1), "texts")
     item = replace(
         item,
@@ -63,13 +65,10 @@ def test_an_item_without_a_policy_today(tmp_path: Path) -> None:
         "no policy today",
         str(answer.chosen.point),
     )
-    empty = "s_today S_today cost_today saving run_saving fill_today".split()
+    empty = "s_today S_today cost_today saving fill_today".split()
     assert {row[name] for name in empty} == {""}
-    (exact,) = (
-        its for its in rows_of(tmp_path / "more/exact.csv") if its["item"] == "it"
-    )
-    empty = "s_today total_today cost_today saving saving_variance".split()
-    assert {exact[name] for name in empty} == {""}
+    details = whole_rows(tmp_path / "more")["it"]
+    assert {details[name] for name in ("run_saving", "run_low")} == {""}
     parts = plain.tables["Where the saving comes from"]
     assert page.tables["Where the saving comes from"] == parts
     assert len(parts) == 5
@@ -120,9 +119,7 @@ def test_an_item_without_demand(tmp_path: Path) -> None:
     remark = Remark("no demand in record", {"periods": 3})
     page = page_of(tmp_path / "more", 12, change=(item, remark))
     row, summary = [*page.items.values()][-1], summary_of(tmp_path / "more")
-    (decision,) = (
-        its for its in rows_of(tmp_path / "more/decisions.csv") if its["item"] == "it"
-    )
+    decision = whole_rows(tmp_path / "more")["it"]
     cells = {
         "verdict": "no demand",
         "s_chosen": "0",

@@ -19,6 +19,7 @@ from crnplan.show import workbook
 from crnplan.plan.catalogue import planned_folder
 from crnplan.read.catalogue_reading import READ
 from planner.tests.conftest import Command
+from planner.tests.planned_tables import whole_frame
 from planner.tests.show.made_catalogue import made_folder, made_pair
 from planner.tests.show.page_reader import Page
 
@@ -75,6 +76,7 @@ def test_cells_are_those_of_the_frames(book: Any, folder: Path) -> None:
     """Decisions, orders, what is left out and the curve are as in the tables, unrounded. Item numbers are texts."""
     plan = crn.Plan(folder)
     assert sheet_cells(book["Decisions"]) == cells_of(plan.decisions)
+    assert sheet_cells(book["Details"]) == cells_of(plan.details)
     assert sheet_cells(book["Left out"]) == cells_of(plan.rejects)
     assert sheet_cells(book["Without what is on order"]) == cells_of(
         plan.orders_today().frame
@@ -114,7 +116,7 @@ def test_classes_and_meanings(book: Any, folder: Path) -> None:
 
 def test_formats_and_panes(book: Any) -> None:
     """Each sheet has its heading frozen and filters on; numbers have the decimals of their columns and the currency."""
-    names = "Summary, Decisions, Without what is on order, Left out, Curve, Classes, Read me"
+    names = "Summary, Decisions, Without what is on order, Left out, Curve, Classes, Details, Read me"
     assert book.sheetnames == names.split(", ")
     for sheet in book.worksheets:
         assert sheet.freeze_panes == "B2"
@@ -125,7 +127,7 @@ def test_formats_and_panes(book: Any) -> None:
         zip((cell.value for cell in book["Decisions"][1]), book["Decisions"][2])
     )
     assert first["saving"].number_format == '"KWD" #,##0.000;"KWD" -#,##0.000'
-    names = "fill_chosen", "s_chosen", "stock_today", "item"
+    names = "fill_chosen", "s_chosen", "orders_chosen", "item"
     formats = [first[name].number_format for name in names]
     assert formats == ["0.00%", "#,##0", "#,##0.0###", "@"]
     assert book["Summary"]["B2"].number_format == first["saving"].number_format
@@ -154,12 +156,16 @@ def test_nothing_runs_and_bytes_stay(
     assert (tmp_path / "again.xlsx").read_bytes() == path.read_bytes()
 
 
-def test_tables_in_a_style(folder: Path, crnplan: Command) -> None:
-    """A command writes its tables in the style that is asked for, and the next one as ever."""
-    words = "today", folder, "--date", "2026-11-27", "--csv", "orders"
-    styled, plain = crnplan(*words, "--csv-style", "de"), crnplan(*words)
-    assert styled.output.startswith("\ufeffitem;description;")
-    assert plain.output.startswith("item,description,")
+def test_orders_in_a_style(folder: Path, crnplan: Command, tmp_path: Path) -> None:
+    """Orders of suppliers are in the style that is asked for; other tables are as ever."""
+    words = "today", folder, "--date", "2026-11-27", "--out", tmp_path / "orders"
+    assert crnplan(*words, "--csv-style", "de").status == 0
+    orders = [*(tmp_path / "orders").glob("today_supplier_*.csv")]
+    assert orders
+    for path in (tmp_path / "orders").glob("*.csv"):
+        text = path.read_text("utf-8")
+        assert text.startswith("\ufeff") == (path in orders)
+        assert (";" in text.splitlines()[0]) == (path in orders)
 
 
 def test_plain_plans_and_those_that_are_refused(
@@ -170,7 +176,10 @@ def test_plain_plans_and_those_that_are_refused(
     plan = crn.Plan(made_folder(tmp_path / "plan", 5, has_curve=False))
     plan.to_excel(tmp_path / "plan.xlsx")
     book = openpyxl.load_workbook(tmp_path / "plan.xlsx")
-    assert book.sheetnames == ["Summary", "Decisions", "Left out", "Classes", "Read me"]
+    assert (
+        book.sheetnames
+        == "Summary, Decisions, Left out, Classes, Details, Read me".split(", ")
+    )
     assert book["Decisions"]["K2"].number_format == "#,##0.00"
     with sqlite3.connect(plan.path / READ) as base:
         base.execute("UPDATE items SET setup = '1' WHERE name = 'P00000'")
@@ -207,7 +216,7 @@ def test_one_computation_of_orders(
 ) -> None:
     """Command, workbook, page and Python say the same number and value of orders, with what is on order and without; the
     sheet and the page without it say so, and are not called today's orders."""
-    rows, has_orders = stocked.decisions, on_order is not None
+    rows, has_orders = whole_frame(stocked), on_order is not None
     lacks = rows.S_chosen - 3 - 30 * has_orders * (rows.index < 40)
     placed = lacks[lacks > rows.S_chosen - rows.s_chosen].astype(float)
     value = (placed * (rows.value_chosen / rows.stock_chosen)).sum()

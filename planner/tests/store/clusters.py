@@ -25,12 +25,13 @@ import crnplan as crn
 SECONDS, LIFETIME = 120, 1_200
 LOOPBACK = "127.0.0.1"
 WORKERS = ("stays", "leaves")
+TOP = str(Path(__file__).parents[3])
 HERE = f"--host {LOOPBACK} --no-dashboard --dashboard-address {LOOPBACK}:0"
 Found = TypeVar("Found")
 
 
-def changed_package(room: Path) -> Path:
-    """Returns a folder with a copy of crnplan that has a line more."""
+def changed_package(room: Path) -> str:
+    """Returns where a worker finds a copy of crnplan that has a line more."""
     folder = room / "changed"
     shutil.copytree(
         Path(crn.__file__).parent,
@@ -39,7 +40,7 @@ def changed_package(room: Path) -> Path:
     )
     with (folder / "crnplan/__init__.py").open("a", encoding="utf-8") as file:
         file.write("# changed\n")
-    return folder
+    return f"{folder}:{TOP}"
 
 
 class Cluster:
@@ -57,6 +58,7 @@ class Cluster:
             if not name.startswith("DASK_")
         }
         self.environment["DASK_CONFIG"] = str(home / "no_settings")
+        self.environment["PYTHONPATH"] = TOP
 
     def start(self, name: str, *words: str, **others: str) -> None:
         """Starts Python on these words in the room, where what it prints goes. `others` are variables of its own."""

@@ -1,8 +1,10 @@
 """Tests work on a cluster: workers that end, hang, or are not as this machine; a scheduler that ends or isn't there."""
 from __future__ import annotations
 
+import contextlib
 import os
 import signal
+import sqlite3
 import subprocess
 import sys
 from collections.abc import Iterator, Sequence
@@ -17,8 +19,8 @@ import pytest
 import crnplan as crn
 from crnplan.store import clusters, jobs
 from crnplan.store.means import Means
-from planner.tests.conftest import Answer, Command, script
-from planner.tests.decide.answers import changed, priced
+from planner.tests.conftest import Answer, Command, script, write_inputs
+from planner.tests.decide.answers import priced
 from planner.tests.store.clusters import (
     LOOPBACK,
     SECONDS,
@@ -26,11 +28,8 @@ from planner.tests.store.clusters import (
     Cluster,
     changed_package,
 )
-from planner.tests.store.test_sweep import kept
+from planner.tests.store.sweeping import REPORTS, SCENARIOS, swept
 
-# A sweep of eight scenarios, for two workers.
-GRID = "--s 50 61 1 --S 70 79 1".split()
-SCENARIOS = 8
 # Says which worker begins a run and ends it. The second run of each waits until it may go on, and not for ever.
 HOLDING = """echo "$CRNSIM_WORKER begins" >> "{room}/taken"
 if [ "$(grep -c "^$CRNSIM_WORKER begins" "{room}/taken")" -eq 2 ]; then
@@ -74,8 +73,8 @@ def taken(room: Path, worker: str) -> tuple[int, int]:
 
 def start(cluster: Cluster, *words: str) -> None:
     """Starts a sweep over the cluster, of two workers or three."""
-    line = f"-m crnplan sweep base.toml --cluster {cluster.address}"
-    cluster.start("sweep", *line.split(), *GRID, *words)
+    line = f"-m planner.tests.store.sweeping base.toml --cluster {cluster.address}"
+    cluster.start("sweep", *line.split(), *words)
 
 
 def ended(cluster: Cluster) -> Answer:
@@ -84,14 +83,21 @@ def ended(cluster: Cluster) -> Answer:
     return Answer(status, output.read_text("utf-8"), errors.read_text("utf-8"))
 
 
-def swept(room: Path, program: Path | str, **more: Any) -> str:
-    """Returns the report of the sweep, by the function."""
-    base = crn.Scenario.read(room / "base.toml")
-    return crn.sweep(base, range(50, 62), range(70, 80), program=program, **more).text
+def kept(folder: Path) -> list[tuple[str, str]]:
+    """Returns the reports that a sweep has kept, by a look from outside."""
+    try:
+        with contextlib.closing(
+            sqlite3.connect(f"file:{folder}/{REPORTS}?mode=ro", uri=True)
+        ) as base:
+            return base.execute(
+                "SELECT item, report FROM answers ORDER BY item"
+            ).fetchall()
+    except sqlite3.OperationalError:  # it is not there yet
+        return []
 
 
 def test_a_worker_that_leaves_changes_nothing(
-    cluster: Cluster, room: Path, crnplan: Command
+    cluster: Cluster, room: Path, program: Path
 ) -> None:
     """Ends a worker in the middle of its second run, when the other one is in the middle of its own."""
     start(cluster, "--program", "./holding", "--out", "kept_by_cluster")
@@ -103,10 +109,8 @@ def test_a_worker_that_leaves_changes_nothing(
     cluster.end("leaves")
     (room / "go_on").touch()
     told = ended(cluster)
-    here = crnplan("sweep", "base.toml", *GRID, "--out", "kept_here")
-    assert (told.status, told.output) == (0, here.output) == here[:2], told.errors[
-        -1000:
-    ]
+    here = swept("base.toml", program=program, out="kept_here")
+    assert (told.status, told.output) == (0, here), told.errors[-1000:]
     begun, finished = taken(room, "stays")
     assert taken(room, "leaves") == (2, 1)
     assert begun == finished >= SCENARIOS - 1
@@ -122,29 +126,22 @@ def test_a_client(
     import distributed
 
     with distributed.Client(cluster.address, timeout=SECONDS) as client:
-        here = swept(room, program, jobs=1)
-        assert swept(room, program, cluster=client) == here
+        here = swept("base.toml", program=program, jobs=1)
+        assert swept("base.toml", program=program, cluster=client) == here
         monkeypatch.setattr(
             clusters, "stranger", lambda *words: crn.Refused("it is strange")
         )
         with pytest.raises(
             crn.Refused, match=f"^cluster={cluster.address}: it is strange"
         ):
-            swept(room, program, cluster=client)
+            swept("base.toml", program=program, cluster=client)
         assert client.submit(pow, 2, 3).result() == 8
 
 
-def test_a_fault_of_the_base(cluster: Cluster, room: Path, crnplan: Command) -> None:
-    """Checks that a fault of the base is reported, and a failing program by its line."""
-    text = (room / "base.toml").read_text("utf-8")
-    for initial, part in ((60, "no output, status 1"), (-1, "fault 6")):
-        (room / "base.toml").write_text(
-            changed(text, "initial = 60", f"initial = {initial}"), "utf-8"
-        )
-        line = f"sweep base.toml --cluster {cluster.address} --program /bin/false"
-        told = crnplan(*line.split(), *GRID)
-        assert told[:2] == (2, "")
-        assert part in told.errors
+def test_a_program_that_fails(cluster: Cluster) -> None:
+    """Its line comes back from the worker."""
+    with pytest.raises(crn.ProgramError, match="no output, status 1"):
+        swept("base.toml", cluster=cluster.address, program="/bin/false")
 
 
 def test_a_scheduler_that_ends(cluster: Cluster, room: Path) -> None:
@@ -179,16 +176,17 @@ def test_a_batch_that_hangs(
     hanging = script(
         room / "hanging", HANGING.format(room=room, program=program, hangs=hangs)
     )
-    others = {"cluster": cluster.address, "out": room / "kept"}
+    others: dict[str, Any] = {"cluster": cluster.address, "out": room / "kept"}
     monkeypatch.setattr(jobs, "LIMIT_SECONDS", 1.0)
     if hangs == "both":
         said = "has taken longer than 1 seconds on each of 3 workers"
         with pytest.raises(crn.Failed, match=said):
-            swept(room, hanging, **others)
+            swept("base.toml", program=hanging, **others)
         return
     # Other batches may take as long on a busy machine, and are then given to others too.
     monkeypatch.setattr(jobs, "MOST_TRIES", 999)
-    assert swept(room, hanging, **others) == swept(room, program)
+    found = swept("base.toml", program=hanging, **others)
+    assert found == swept("base.toml", program=program)
     begun, finished = taken(room, "leaves")
     assert finished < begun
 
@@ -334,7 +332,7 @@ def test_a_stranger_that_comes_later(cluster: Cluster, room: Path) -> None:
     """Refuses a worker with another crnplan that joins in the middle, and keeps what the others did."""
     start(cluster, "--program", "./holding", "--out", "kept")
     cluster.wait_until("two reports", lambda: len(kept(room / "kept")) == 2, "sweep")
-    cluster.join("late", PYTHONPATH=str(changed_package(room)))
+    cluster.join("late", PYTHONPATH=changed_package(room))
     cluster.wait_for(3)
     cluster.end("leaves")
     told = ended(
@@ -373,9 +371,7 @@ def test_shared_words_outlive_their_workers(cluster: Cluster) -> None:
 
 
 @pytest.mark.parametrize("part", ["crnsim", "crnplan"])
-def test_a_stranger_from_the_beginning(
-    cluster: Cluster, room: Path, crnplan: Command, part: str
-) -> None:
+def test_a_stranger_from_the_beginning(cluster: Cluster, room: Path, part: str) -> None:
     """Refuses a worker with another program or crnplan, and no other, before anything is run. Without it, all is."""
     script(room / "other/crnsim", f"exec '{cluster.home}/bin/crnsim'")
     cluster.join(
@@ -383,14 +379,13 @@ def test_a_stranger_from_the_beginning(
         **(
             {"PATH": f"{room / 'other'}:{os.environ['PATH']}"}
             if part == "crnsim"
-            else {"PYTHONPATH": str(changed_package(room))}
+            else {"PYTHONPATH": changed_package(room)}
         ),
     )
     cluster.wait_for(3)
-    line = f"sweep base.toml --cluster {cluster.address} --program crnsim --out kept"
-    words = [*line.split(), *GRID]
     for status, reports in ((2, 0), (0, SCENARIOS)):
-        told = crnplan(*words)
+        start(cluster, "--program", "crnsim", "--out", "kept")
+        told = ended(cluster)
         assert told.status == status and len(kept(room / "kept")) == reports, told
         assert (
             "the worker late (tcp://" in told.errors
@@ -420,10 +415,12 @@ def test_no_way_to_a_cluster(
     monkeypatch.setenv("DASK_CONFIG", str(room / "no_settings"))
     if address == LOOPBACK:
         monkeypatch.setitem(sys.modules, "distributed", None)
-    told = crnplan("sweep", "examples/two_policies.toml", *GRID, "--cluster", address)
+    write_inputs(room)
+    words = "catalogue demand.csv items.csv --out plan --cluster"
+    told = crnplan(*words.split(), address)
     assert told[:2] == (2, "")
-    assert told.errors.count("\n") == 1
-    assert part in told.errors
+    (line,) = (it for it in told.errors.splitlines() if it.startswith("crnplan: "))
+    assert part in line
 
 
 pytestmark = pytest.mark.timeout(2 * SECONDS)

@@ -28,7 +28,7 @@ import pytest
 
 import crnplan as crn
 from crnplan.store import jobs, processes
-from planner.tests.conftest import heed_interrupts, script
+from planner.tests.conftest import heed_interrupts, script, write_inputs
 
 LONG = 60  # seconds that the system may need for its own work
 SHORT = 0.3
@@ -38,16 +38,16 @@ SETTINGS: dict[str, Any] = {
     "periods": 64,
     "replications": 4,
 }
-# Python that is interrupted in a sweep, and then sweeps again; and that has a temporary folder until it is ended.
-SWEEPING = """
+# Python that is interrupted in a plan, and then plans again; and that has a temporary folder until it is ended.
+PLANNING = """
 import crnplan as crn
-def sweep(program):
-    scenario = crn.Scenario.read("examples/two_policies.toml")
-    return crn.sweep(scenario, range(1, 5), range(41, 51), jobs=2, program=program)
+def planned(program):
+    words = {"fit": "empirical", "borrow": "none", "periods": 64, "replications": 2}
+    return crn.plan("demand.csv", "items.csv", jobs=2, program=program, **words)
 try:
-    sweep("./hanging")
+    planned("./hanging")
 except KeyboardInterrupt:
-    print(len(sweep(None).frame))
+    print(len(planned(None).frame))
 """
 WITH_A_ROOM = "from crnplan.store.files import Room; room = Room('keep it'); print(room.path, flush=True); input()"
 
@@ -133,12 +133,12 @@ def test_plans_side_by_side(few: list[pd.DataFrame], program: Path) -> None:
     assert not children()
 
 
-def test_interrupted_in_python(tmp_path: Path, top: Path, program: Path) -> None:
+def test_interrupted_in_python(tmp_path: Path, program: Path) -> None:
     """After an interrupt Python can go on, work in processes again, and end by itself."""
-    (tmp_path / "examples").symlink_to(top / "examples")
+    write_inputs(tmp_path, "ABCDEFGHIJKL")
     script(tmp_path / "hanging", f'echo >> "{tmp_path}/begun"\nexec sleep 1000')
     with subprocess.Popen(
-        [sys.executable, "-c", SWEEPING],
+        [sys.executable, "-c", PLANNING],
         cwd=tmp_path,
         env={**os.environ, "CRNSIM": str(program)},
         stdin=subprocess.DEVNULL,
@@ -154,7 +154,7 @@ def test_interrupted_in_python(tmp_path: Path, top: Path, program: Path) -> None
             output, errors = process.communicate(timeout=LONG)
         finally:
             process.kill()
-    assert (process.returncode, int(output), errors) == (0, 1 + 4 * 10, b"")
+    assert (process.returncode, int(output), errors) == (0, 12, b"")
 
 
 def test_interrupted_again_while_processes_are_ended(

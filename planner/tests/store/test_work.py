@@ -292,3 +292,25 @@ def test_answers_of_another_version(store: Squares) -> None:
         assert other.answer(NAMES[0]) is None
         assert other.base.execute("SELECT count(*) FROM answers").fetchone() == (40,)
         assert done(other) == 1
+
+
+def counts(line: str) -> str:
+    """Returns a line of a log without its rate and the time that is left."""
+    return line.split(",")[0]
+
+
+@pytest.mark.parametrize("total", [1, 2, 8, 9, 10, 11, 100, 12345])
+def test_lines_begin_and_end(capsys: pytest.CaptureFixture[str], total: int) -> None:
+    """Checks the first and the last line, and that there are at most ten, for each kept number of a few."""
+    for kept in {0, total // 2, total}:
+        with work.progress(total, True, "scenarios", kept) as done:
+            done.add(0)
+            for _ in range(kept + 1, total + 1):
+                done.add(1)
+        shown = capsys.readouterr().err.splitlines()
+        assert shown[0] == f"{kept} of {total} scenarios ({kept} kept)"
+        assert len(shown) <= 10
+        assert counts(shown[-1]) == f"{total} of {total} scenarios ({kept} kept)"
+    with work.progress(total, False, "scenarios") as done:
+        done.add(total)
+    assert capsys.readouterr() == ("", "")

@@ -47,7 +47,6 @@ def kept_of(pairs: np.recarray, feasible: Feasible) -> np.recarray:
     gap = pairs.S - pairs.s
     is_kept = (gap >= feasible.least_gap) & (gap <= feasible.most_gap)
     is_kept &= (pairs.s >= feasible.least_point) & (pairs.S <= feasible.most_level)
-    is_kept &= (pairs.s % feasible.multiple == 0) & (pairs.S % feasible.multiple == 0)
     return pairs[is_kept]
 
 

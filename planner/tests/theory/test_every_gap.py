@@ -27,7 +27,7 @@ RATES = np.array([(30, 1), (90, 1), (30, 4), (0, 1)], float)
 PRICES = 10.0 ** np.arange(-3, 5)
 CASES = np.vstack([np.repeat(RATES, len(PRICES), axis=0).T, np.tile(PRICES, 4)])
 LUMPY, SMOOTH = ((0, 1, 6), (5, 4, 1)), ((1, 2, 3, 4), (1, 2, 2, 1))
-BOUNDS = (ALL, Feasible(5, 3, 40), Feasible(0, 0, multiple=4), Feasible(9, 30, 70, 5))
+BOUNDS = (ALL, Feasible(5, 3, 40), Feasible(0, 0, 20), Feasible(9, 30, 70))
 
 
 @functools.cache
@@ -48,11 +48,11 @@ def pairs_of(theory: LongRun) -> Iterator[tuple[int, int]]:
     """Yields the gaps and levels, in items, of all policies that may be best."""
     step, feasible = theory.step, theory.feasible
     for gap in theory.every_gap(0, theory.most).tolist():
-        least = theory.items(gap) + feasible.least
+        least = theory.items(gap) + feasible.least_point
         most = max(least, step * (gap + theory.after.high + 1))
         yield gap, least
         for cell in range(least // step + 1, most // step + 2):
-            yield gap, min(feasible.up(step * cell), feasible.top)
+            yield gap, min(step * cell, feasible.top)
 
 
 def figures_at(theory: LongRun, gap: int, level: int) -> Floats:
@@ -195,9 +195,8 @@ def test_search_with_several_lead_times(
     for gap in theory.every_gap(0, theory.most).tolist():
         table = figures_by_level(demand, back, step, gap)
         cells = step * np.arange(table.shape[1])
-        mine = np.arange(theory.items(gap) + feasible.least, cells[-1])
-        is_allowed = (feasible.up(mine) == mine) & (mine <= feasible.top)
-        mine = mine[is_allowed | (mine == mine[0])]
+        mine = np.arange(theory.items(gap) + feasible.least_point, cells[-1])
+        mine = mine[(mine <= feasible.top) | (mine == mine[0])]
         by_level = np.array([np.interp(mine, cells, row) for row in table])
         totals = by_level.T @ [holding, price, order]
         least = np.minimum(least, totals.min(axis=0))

@@ -24,9 +24,8 @@ def best_of_gap(theory: LongRun, gap: int, share: float) -> tuple[int, float]:
     """Returns the cheapest feasible level of a gap that is enough, and its cost, by all levels; -1 if there is none."""
     feasible, most = theory.feasible, theory.step * (CELLS - 1)
     cost, unmet, *_ = means_by_level(theory, gap, CELLS)
-    least = theory.items(gap) + feasible.least
+    least = theory.items(gap) + feasible.least_point
     items = np.arange(least, min(most, feasible.top) + 1)
-    items = items[feasible.up(items) == items]
     cells = items / theory.step
     costs = np.interp(cells, np.arange(CELLS), cost)
     lacking = np.interp(cells, np.arange(CELLS), unmet)
@@ -48,8 +47,8 @@ def best_of_gap(theory: LongRun, gap: int, share: float) -> tuple[int, float]:
         (1, 30, ALL),
         (3, 1000, ALL),
         (3, 30, ALL),
-        (1, 1000, Feasible(0, 3, 60, 4)),
-        (3, 1000, Feasible(0, 26, 70, 6)),
+        (1, 1000, Feasible(0, 3, 20)),
+        (3, 1000, Feasible(0, 26, 70)),
     ],
     ids=str,
 )
@@ -86,14 +85,14 @@ def test_each_gap_beside_all_its_levels(
         assert looked.sum() < 0.9 * len(gaps)
 
 
-def test_levels_that_no_multiple_allows() -> None:
+def test_levels_that_no_bound_allows() -> None:
     """No level is chosen above the cut, nor if the greatest level lies below the least that is allowed."""
     cheaper_of = levels.cheaper_of.__wrapped__
     none = -1, math.inf
     lows = levels.Lows(np.zeros((3, 4)), np.zeros((3, 4)), False, np.ones(1))
     for bounds, level, least in (
-        (levels.Bounds(0, 1, 1, 60, cut=5), 10, 0),
-        (levels.Bounds(0, 1, 4, 3, cut=60), 3, 10),
+        (levels.Bounds(0, 1, 60, cut=5), 10, 0),
+        (levels.Bounds(0, 1, 3, cut=60), 3, 10),
     ):
         assert cheaper_of(lows, bounds, level, least, math.inf, 0.0) == none
 
@@ -104,7 +103,7 @@ def test_a_level_below_the_best_must_hold_too() -> None:
     chances = np.array([0.2, 0.5, 0.7, 0.9])
     table = np.array([np.arange(4.0), np.zeros(4), chances])
     lows = levels.Lows(table, np.zeros((6, 4)), False, np.ones(1))
-    bounds = levels.Bounds(0, 10, 1, 25, cut=60)
+    bounds = levels.Bounds(0, 10, 25, cut=60)
     for held, chosen in ((0.7, 25), (0.71, -1)):
         assert levels.cheaper_of(lows, bounds, 30, 0, math.inf, held)[0] == chosen
 

@@ -73,7 +73,7 @@ def check_searches(scenario: Scenario, *feasible: Feasible) -> None:
 def test_the_cheapest_of_all_pairs(
     demand: Weights, lead: Weights, costs: Costs
 ) -> None:
-    check_searches(scenario_of(demand, lead, costs=costs), Feasible(4, 2, 10, 2))
+    check_searches(scenario_of(demand, lead, costs=costs), Feasible(4, 2, 10))
 
 
 @EACH_SEED
@@ -100,9 +100,8 @@ def test_the_cheapest_of_feasible_pairs(seed: int) -> None:
             level = source.choice(
                 [10**6, source.randint(3, 24), source.randint(6, 24)]
             )
-            multiple = source.choice([1, 1, 2, 3, 4, 6])
             most_gap = source.choice([10**6, source.randint(0, 9)])
-            its.append(Feasible(gap, point, level, multiple, most_gap))
+            its.append(Feasible(gap, point, level, most_gap))
         check_searches(scenario, *its)
 
 
@@ -112,11 +111,11 @@ def test_the_cheapest_of_feasible_pairs(seed: int) -> None:
     [
         Feasible(0, 1, 4),
         Feasible(6, 2, 9),
-        Feasible(3, 0, 8, 4),
+        Feasible(3, 0, 8),
         Feasible(0, 0, 11),
         Feasible(most_gap=3),
         Feasible(most_gap=14),
-        Feasible(4, 0, 60, 4, 7),
+        Feasible(4, 0, 60, 7),
     ],
     ids=str,
 )
@@ -136,7 +135,6 @@ def test_few_feasible_pairs_on_a_coarse_lattice(
         Feasible(),
         Feasible(3),
         Feasible(0, 2, 7),
-        Feasible(multiple=4),
         Feasible(most_gap=2),
     ],
     ids=str,
@@ -155,7 +153,7 @@ def test_the_best_of_other_laws_is_feasible(feasible: Feasible) -> None:
 @EACH_LEAD
 @pytest.mark.parametrize(
     "feasible",
-    [Feasible(multiple=3), Feasible(7, 3), Feasible(0, 1, 14), Feasible(most_gap=5)],
+    [Feasible(7, 3), Feasible(0, 1, 14), Feasible(most_gap=5)],
     ids=str,
 )
 def test_promises_within_bounds(feasible: Feasible, lead: Weights) -> None:
@@ -178,13 +176,13 @@ def test_promises_within_bounds(feasible: Feasible, lead: Weights) -> None:
 
     assert feasible.allows(found.point, found.level)
     assert is_kept(found.point, found.level)
-    gap, multiple = found.level - found.point, feasible.multiple
+    gap = found.level - found.point
     own = theory.cheapest_of_gaps([gap], share).level
-    lower = found.point - multiple, found.level - multiple
+    lower = found.point - 1, found.level - 1
     assert found.level == own or not is_kept(*lower)
-    above = own + multiple if own < feasible.top else 0
+    above = own + 1 if own < feasible.top else 0
     assert promises.policy(gap, own + 1, share).level == above
-    for level in range(plain.level, feasible.top + 1, multiple):
+    for level in range(plain.level, feasible.top + 1):
         if is_kept(level - width, level):
             assert found.cost <= theory.figures(level - width, level).cost + 1e-9
             break

@@ -86,30 +86,6 @@ def test_the_table_in_other_forms(crnplan: Command, top: Path) -> None:
     assert told.errors.startswith("crnplan: 14:1: the cost holding is 0, ")
 
 
-def test_promises_of_a_history(crnplan: Command, top: Path, tmp_path: Path) -> None:
-    """Each fill rate is kept under a share of the laws. A history is read as by crnplan history."""
-    sold, leads = tmp_path / "sold.csv", tmp_path / "leads.csv"
-    history = pd.Series([0, 3, 1, 0, 6, 0, 2, 0, 0, 4] * 5 + ["many"], name="sold")
-    history.to_csv(sold, index_label="week")
-    leads.write_text("weeks\n" + "2\n3\n2\n4\n" * 3, "utf-8")
-    part, costs = top / "examples/spare_part.toml", []
-    words = ["suggest", part, "--history", sold, "--demand", "sold", "--leave-out"]
-    for confidence, *more in (
-        (80,),
-        (95, "--confidence", "0.95"),
-        (80, "--lead", leads, "weeks"),
-    ):
-        told = crnplan(*words, "--json", *more)
-        assert told.status == 0 and "sold.csv:52" in told.errors
-        rows = pd.DataFrame(json.loads(told.output)["policies"])
-        laws = f"{confidence}% of the laws that the history allows, for "
-        for share in ("95", "98", "99", "99.5"):
-            reason = f"a fill rate of at least {share}% under {laws}"
-            (cost,) = rows.cost[rows.reasons.str.contains(reason)]
-        costs.append(cost)
-    assert costs[0] < costs[1] and costs[0] != costs[2]
-
-
 @pytest.mark.serial
 @pytest.mark.parametrize("name", COSTLY)
 def test_time_and_memory(asked: Path, name: str) -> None:

@@ -13,7 +13,7 @@ import shlex
 import sys
 import tomllib
 import traceback
-from collections.abc import Callable
+from collections.abc import Callable, Mapping
 from contextlib import redirect_stderr, redirect_stdout
 from dataclasses import dataclass
 from pathlib import Path
@@ -26,24 +26,33 @@ from ..errors import CrnplanError, Failed, Refused, escaped, spelt, worded
 from ..store.files import faults_of
 from ..store.interrupts import heed_interrupt, heeding_interrupts
 from ..options import Option, declared, option
+from ..vocabulary import Word
 
 # The threads of linear algebra gain nothing here. Beside other work they wait for one another, busily.
 for _threads in ("OMP_NUM_THREADS", "OPENBLAS_NUM_THREADS"):
     os.environ.setdefault(_threads, "1")
 
 INTERRUPTED = 130
+PLAN = "plan."  # before the name of a word of reading or planning, in help.toml
 STREAMS = "stdin", "stdout", "stderr"  # in the order of their numbers
 # The subcommands: the module of each, its help, and its options in order.
 COMMANDS: dict[str, dict[str, Any]] = tomllib.loads(
     Path(__file__).with_name("help.toml").read_text("utf-8")
 )
+RETIRED: dict[str, str] = tomllib.loads(
+    Path(__file__).with_name("retired.toml").read_text("utf-8")
+)
 
 
-def options_of(command: str) -> list[Option]:
-    """Returns the options of a command. A name without its table is that of an own option, or else of a common one."""
-    options = []
+def options_of(command: str) -> list[Option | Word]:
+    """Returns the options of a command. A name without its table is that of an own option, or else of a common one; one of
+    `plan` is a word of reading or planning."""
+    options = list[Option | Word]()
     for name in COMMANDS[command]["options"]:
         place = name
+        if name.startswith(PLAN):
+            options.append(known_words()[name.removeprefix(PLAN)])
+            continue
         if "." not in name:
             table = command if name in declared().get(command, ()) else "common"
             place = f"{table}.{name}"
@@ -51,24 +60,29 @@ def options_of(command: str) -> list[Option]:
     return options
 
 
+def known_words() -> Mapping[str, Word]:
+    """Returns the words of reading and planning by name."""
+    from ..given import words_of
+    from ..plan.how import Settings
+    from ..read.items import Reading
+
+    return words_of(Reading, Settings)
+
+
 @dataclass
 class Spelling:
     """Spells arguments of the library as the options that have their names: of the subcommand that runs, else of
-    `crnplan catalogue`, since pages and tables tell what that has read. The words of `crnplan item` are settings.
+    `crnplan catalogue`, since pages and tables tell what that has read.
     """
 
     command: str = ""
 
     def __call__(self, name: str, value: str) -> str:
         """Returns an argument as an option, perhaps with a value."""
-        if self.command == "item" and name not in ("out", "program"):
-            from ..plan.settings import as_setting
-
-            return as_setting(name, value)
         flag = f"--{name.replace('_', '-')}"
         for command in filter(None, ("catalogue", self.command)):
             for option in options_of(command):
-                if option.name == name and not option.positional:
+                if option.name == name and not getattr(option, "positional", False):
                     flag = option.flag
         return f"{flag} {shlex.quote(value)}" if value else flag
 
@@ -96,7 +110,9 @@ class Group(click.Group):
         elif name not in COMMANDS and not name.startswith("-"):
             close = difflib.get_close_matches(name, COMMANDS, 2)
             advice = f"; they are {', '.join(COMMANDS)}"
-            if close:
+            if name in RETIRED:
+                advice = f" any more; {RETIRED[name]}."
+            elif close:
                 advice = f"; did you mean {' or '.join(close)}?"
             raise click.UsageError(f"there is no command '{name}'{advice}", ctx)
         return super().resolve_command(ctx, args)
@@ -113,7 +129,7 @@ class Group(click.Group):
 @click.group(
     cls=Group,
     context_settings={"help_option_names": ["-h", "--help"], "max_content_width": 100},
-    epilog="Example: crnplan item history.csv settings.toml --out plan",
+    epilog="Example: crnplan catalogue demand.csv items.csv --out plan",
 )
 @click.version_option(
     __version__, "-V", "--version", prog_name="crnplan", message="%(prog)s %(version)s"

@@ -13,20 +13,26 @@ import crnplan as crn
 from ..catalogues import Catalogue, Lost, plan_catalogue, settings_of, write_found
 from ..store.files import Folder, named_text, own_folder
 from ..store.means import Means
-from ..options import PLAN, within
-from ..show.catalogue_page import CATALOGUE_FILES
-from ..show.catalogue_tables import counted_rows, hardly_read, reasons_of, rejects_of
+from ..show.catalogue_page import CATALOGUE_FILES, write_scenario
+from ..show.catalogue_tables import (
+    counted_rows,
+    hardly_planned,
+    hardly_read,
+    planned_of,
+    reasons_of,
+    rejects_of,
+)
 from ..plan.backtest.catalogue import check_test
 from ..plan.catalogue import check_earlier
 from ..plan.how import Settings
 from ..plan.settings import CONFIG, read_config
 from ..read.catalogue_reading import CATALOGUE, read_into
-from ..read.items import Words
+from ..read.items import Reading
 from ..read.law_forms import LAWS
 from ..read.outages import OUT
 from ..read.overriding import set_overrides
-from ..read.told import by_kind, made_from, merged, words_from
-from . import note
+from ..read.told import made_from, merged, stated
+from . import known_words, note
 from .words import command
 
 # So many reasons are named on the terminal.
@@ -36,8 +42,6 @@ KINDS = {
     "item": "items left out",
     "suspicious": "named, and kept",
 }
-# Items for which no order is planned, though nothing is wrong with them.
-UNORDERED = ("no_demand", "stopped", "phase_out")
 
 
 @command()
@@ -78,7 +82,7 @@ def catalogue(**asked: Any) -> int:
 
 def read_files(
     folder: Folder,
-    words: Words,
+    words: Reading,
     settings: Settings,
     asked: Mapping[str, Any],
     is_guessed: bool,
@@ -111,6 +115,7 @@ def planned(folder: Folder, settings: Settings, asked: Mapping[str, Any]) -> lis
     """Plans a catalogue that was read into a folder, and says what comes of it. Returns what is lost or broken."""
     means = Means(asked["jobs"], asked["cluster"], asked["program"], shown=True)
     done = plan_catalogue(folder, settings, means, asked["after"], asked["again"])
+    write_scenario(folder, asked["program"])
     line = (
         f"{folder.path}: {done.planned:,} items planned, {done.kept:,} kept from before"
     )
@@ -130,8 +135,8 @@ def planned(folder: Folder, settings: Settings, asked: Mapping[str, Any]) -> lis
 def unusable(read: Catalogue) -> list[str]:
     """Returns why a plan of the files that were read is of no use."""
     items = read.counts["items"]
-    lines = [*hardly_read(read.counts["files"])]
-    if items["ready"] == sum(items[state] for state in UNORDERED):
+    lines = [*hardly_read(read.counts["files"]), *hardly_planned(items)]
+    if not planned_of(items):
         lines.insert(0, "no item can be planned")
     return lines
 
@@ -147,20 +152,15 @@ def status_of(reasons: Iterable[str]) -> int:
 
 def words_of(
     asked: Mapping[str, Any], config: Mapping[str, Any]
-) -> tuple[Words, Settings]:
+) -> tuple[Reading, Settings]:
     """Returns how files are read and how items are planned: by the command's words, else by the configuration."""
-    stated: dict[str, Any] = {}
-    for option in within(PLAN):
-        value = asked.get(option.name)
-        if value not in (None, (), {}):
-            stated[option.key] = value
-    columns = by_kind(stated.pop("columns", {}))
-    if "factors" in stated:
-        stated["factors"] = {
-            measure: int(number) for measure, number in stated["factors"].items()
-        }
-    tree = merged(config, stated, columns)
-    return words_from(tree), made_from(Settings, tree)
+    said: dict[str, Any] = {}
+    for name, word in known_words().items():
+        value = asked.get(name)
+        if value not in (None, ()):
+            said |= stated(name, word.key, word.meant(value))
+    tree = merged(config, said)
+    return made_from(Reading, tree), made_from(Settings, tree)
 
 
 def reason_lines(catalogue: Catalogue) -> Iterator[str]:

@@ -33,12 +33,13 @@ def today(
     table: str | None,
     out: Path | None,
     xlsx: Path | None,
+    csv_style: str,
     **asked: Any,
 ) -> int:
     orders = orders_by(folder, **asked)
     if out:
         with own_folder(out, TODAY) as kept:
-            orders.write(kept)
+            orders.write(kept, csv_style)
     if xlsx:
         orders.to_excel(xlsx)
     click.echo(orders.tables[table].csv if table else orders.text, nl=False)

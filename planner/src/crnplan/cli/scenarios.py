@@ -1,203 +1,147 @@
-"""The commands on a scenario, and the one on the program. Each imports what takes long itself."""
+"""The commands that suggest policies of a scenario, and that run it or read its reports, and the one on the program."""
 from __future__ import annotations
 
-import json
+import contextlib
+import sys
+from collections.abc import Iterator, Sequence
 from dataclasses import replace
 from pathlib import Path
-from typing import Any
+from typing import TYPE_CHECKING, Any
 
 import click
 
 import crnplan as crn
 from .. import formats
 from ..crnsim.program import build_of_package, program_and_reason, writes_known_report
-from ..crnsim.trajectory import chosen, shown_periods, table_of
+from ..errors import RefusedFaults
 from ..store.digests import sha256
 from ..named_policies import read_policies
-from ..toml.documents import read_bytes
-from ..toml.scenarios import read_scenario
-from .words import command, read_for, show, show_rows
+from ..toml.documents import places_of
+from .words import command, refuse_words, show
+
+if TYPE_CHECKING:
+    from ..crnsim.report import Row
+    from ..decide.verdicts import Decision
+
+# The words about a run, and those about reports, by their names.
+OF_RUNS = ("words", "key", "horizon", "stock", "long_run", "keys", "program")
+OF_REPORTS = ("path", "replications")
+
+
+def given_bytes(file: str) -> tuple[str, bytes]:
+    """Returns the name of a file with its bytes; `-` is standard input."""
+    if file == "-":
+        return "", sys.stdin.buffer.read()
+    try:
+        return file, Path(file).read_bytes()
+    except OSError as fault:
+        raise crn.Refused(f"{file}: {fault.strerror}") from fault
+
+
+def decided_reports(
+    reports: Sequence[tuple[str, bytes]], asked: dict[str, Any], level: float
+) -> tuple[Sequence[Row], Decision]:
+    """Returns the rows of all reports together, and what they say over the coming periods."""
+    from ..decide.long_run import coming_decision
+    from ..decide.reports import check_policies, read_reports
+    from ..decide.verdicts import decided
+
+    refuse_words(OF_RUNS, "a scenario that is run, and this is a report")
+    path, count = asked["path"], asked["replications"]
+    if path is None:
+        if count is None:
+            click.get_current_context().fail("give --scenario or --replications")
+        rows = read_reports(reports, count)
+        return rows, decided(rows, count * len(reports), level)
+    scenario = crn.Scenario.read(path)
+    if count not in (None, scenario.replications):
+        raise crn.Refused(
+            f"{path}: it has {scenario.replications} replications, not {count}"
+        )
+    rows = read_reports(reports, scenario.replications)
+    check_policies(rows, scenario.policies, reports[0][0], path)
+    whole = replace(scenario, replications=scenario.replications * len(reports))
+    return rows, coming_decision(rows, whole, level)
+
+
+def decided_run(
+    data: bytes, name: str, asked: dict[str, Any], level: float
+) -> tuple[Sequence[Row], Decision]:
+    """Returns the rows of the run of a scenario, and what they say."""
+    from ..decide.long_run import KEYS, coming_decision
+
+    names = {"key": "key", "horizon": "periods", "stock": "initial"}
+    changes = {names[it]: asked[it] for it in names if asked[it] is not None}
+    if asked["long_run"]:
+        refuse_words(("horizon", "stock"), "coming periods, not of --long-run")
+    else:
+        refuse_words(("keys",), "--long-run")
+    scenario, program = crn.Scenario.parse(data, name), asked["program"]
+    if changes:
+        scenario = scenario.changed(**changes)
+    policies = None
+    if asked["words"]:
+        policies = [policy for word in asked["words"] for policy in read_policies(word)]
+    if asked["long_run"]:
+        count = KEYS if asked["keys"] is None else asked["keys"]
+        runs = scenario.long_run(policies, keys=count, program=program)
+        return runs.rows, runs.decide(level)
+    report = scenario.run(policies, program=program)
+    return report.rows, coming_decision(report.rows, report.scenario, level)
+
+
+@contextlib.contextmanager
+def theory_of(scenario: crn.Scenario, path: str) -> Iterator[None]:
+    """Raises RefusedFaults with the place in a scenario for what theory can't compute."""
+    from ..theory.lattice import NoTheory
+
+    try:
+        yield
+    except NoTheory as fault:
+        place = places_of(scenario.source or "", scenario.tree).get(fault.path, (0, 0))
+        raise RefusedFaults(
+            [crn.Fault(str(fault), path.removeprefix("-"), *place)]
+        ) from None
 
 
 @command()
-def why(scenario: str, as_json: bool) -> int:
-    faults = read_scenario(read_bytes(scenario))[1]
-    if as_json:
-        print(json.dumps([fault.record for fault in faults], indent=2))
+def suggest(scenario: str, initial: bool, unit_zero: bool, form: str | None) -> None:
+    read = crn.Scenario.read(scenario)
+    with theory_of(read, scenario):
+        suggested = read.suggest()
+    if form:
+        show(suggested, form)
     else:
-        print("\n".join(fault.text for fault in faults) or "no fault")
-    return int(bool(faults))
+        print(suggested.text, end="", file=sys.stderr)
+        print(suggested.toml(initial=initial, unit_zero=unit_zero), end="")
 
 
 @command()
 def run(
-    scenario: str,
-    words: tuple[str, ...],
-    horizon: int | None,
-    stock: int | None,
-    long_run: bool,
-    keys: int | None,
-    level: float | None,
-    program: str | None,
-    form: str | None,
-) -> None:
-    if not long_run and (keys, level) != (None, None):
-        click.get_current_context().fail("--keys and --level are those of --long-run")
-    base, policies = read_for(scenario, horizon, stock, long_run, is_table=False), None
-    if words:
-        policies = [policy for word in words for policy in read_policies(word)]
-    if not long_run:
-        show_rows(base.run(policies, program=program).table, form or "csv")
-        return
-    stated = {} if keys is None else {"keys": keys}
-    runs = base.long_run(policies, program=program, **stated)
-    show(runs.decide(0.95 if level is None else level), form)
-
-
-@command()
-def decide(
-    report: str,
-    path: str | None,
-    is_sweep: bool,
-    replications: int | None,
-    long_run: bool,
+    files: tuple[str, ...],
     level: float,
     every: bool,
+    out: Path | None,
     form: str | None,
-    plot: Path | None,
-    map_path: Path | None,
+    **asked: Any,
 ) -> None:
-    context = click.get_current_context()
-    if path is None and (is_sweep or long_run):
-        context.fail("give --scenario")
-    if path is None and replications is None:
-        context.fail("give --replications or --scenario")
-    if long_run and (plot or map_path):
-        context.fail("--plot and --map show the report as it is, without --long-run")
-    from ..decide.long_run import coming_decision, corrected_decision
-    from ..decide.verdicts import check_policies, decided, read_report
-
-    if path is None:
-        rows = read_report(report, int(replications or 0))
-        decision = decided(rows, int(replications or 0), level)
+    given = [*map(given_bytes, files)]
+    (name, data), *more = given
+    are_reports = data.startswith(formats.HEADER.encode()) or bool(more)
+    if are_reports or any(asked[it] is not None for it in OF_REPORTS):
+        reports = [(name or "standard input", data) for name, data in given]
+        rows, decision = decided_reports(reports, asked, level)
     else:
-        scenario = crn.Scenario.read(path)
-        count = scenario.replications
-        if replications not in (None, count):
-            raise crn.Refused(
-                f"{path}: it has {count} replications, not {replications}"
-            )
-        rows = read_report(report, count)
-        check_policies(rows, scenario.policies, report, path, is_sweep)
-        decision_of = corrected_decision if long_run else coming_decision
-        decision = decision_of(rows, scenario, level)
-    if plot:
-        from ..show.pictures import differences_picture, save
+        rows, decision = decided_run(data, name, asked, level)
+    if out:
+        from ..crnsim.report import csv_of
+        from ..store.files import named_text
 
-        save(differences_picture(decision), plot)
-    if map_path:
-        from ..show.pictures import map_picture, save
-
-        save(map_picture(decision), map_path)
+        with named_text(out) as file:
+            file.write(csv_of(rows))
     if every:
         decision = replace(decision, most=len(rows))
     show(decision, form)
-
-
-class Keys(click.Command):
-    """Takes one word or four behind `--key`, as they are printed: the option itself has one."""
-
-    def parse_args(self, ctx: click.Context, args: list[str]) -> list[str]:
-        """Joins the words that follow `--key`, up to the next option."""
-        joined: list[str] = []
-        for word in args:
-            if joined[-2:-1] == ["--key"] and not word.startswith("-"):
-                joined[-1] += f" {word}"
-            else:
-                joined.append(word)
-        return super().parse_args(ctx, joined)
-
-
-@command(Keys)
-def check(
-    scenario: str,
-    best: str,
-    keys: tuple[str, ...],
-    replications: int | None,
-    horizon: int | None,
-    stock: int | None,
-    long_run: bool,
-    out: str | None,
-    form: str | None,
-    **options: Any,
-) -> int:
-    from ..decide.keys import check_long_run
-
-    options["keys"] = [key.split() for key in keys]
-    base = read_for(scenario, horizon, stock, long_run, is_table=form is None)
-    if long_run:
-        if (replications, out) != (None, None):
-            click.get_current_context().fail(
-                "--long-run has no --replications and no --out: more keys give more"
-            )
-        checked = check_long_run(base, best, **options)
-    else:
-        if replications is None:
-            replications = formats.MOST_REPLICATIONS
-        checked = crn.check_keys(
-            base, best, replications=replications, out=out, **options
-        )
-    show(checked, form)
-    return int(not checked.holds)
-
-
-@command()
-def sensitivity(
-    scenario: str,
-    horizon: int | None,
-    stock: int | None,
-    long_run: bool,
-    program: str | None,
-    form: str | None,
-) -> None:
-    base = read_for(scenario, horizon, stock, long_run, is_table=form is None)
-    show(crn.sensitivity(base, long_run=long_run, program=program), form)
-
-
-@command()
-def trajectory(
-    scenario: str,
-    names: tuple[str, ...],
-    periods: int | None,
-    program: str | None,
-    out: Path | None,
-    form: str | None,
-) -> None:
-    base = crn.Scenario.read(scenario)
-    policies = chosen(base, names)
-    count = shown_periods(base, periods, out is not None)
-    drawn = crn.trajectories(base.with_policies(policies), count, program=program)
-    if out:
-        from ..show.pictures import save
-
-        save(drawn.plot(), out)
-    if form or not out:
-        show_rows(drawn.table, form)
-
-
-@command()
-def sweep(
-    base: str,
-    points: tuple[int, int, int],
-    levels: tuple[int, int, int],
-    form: str | None,
-    **options: Any,
-) -> None:
-    from ..crnsim.sweep import numbers_of
-
-    sides = numbers_of("s", *points), numbers_of("S", *levels)
-    joined = crn.sweep(crn.Scenario.read(base), *sides, progress=True, **options)
-    show_rows(joined.table, form or "csv")
 
 
 @command()

@@ -2,103 +2,80 @@
 from __future__ import annotations
 
 import json
-import re
 import sys
-from collections.abc import Callable
+from collections.abc import Callable, Collection
 from functools import partial
 from pathlib import Path
 from typing import Any
 
 import click
+from click.core import ParameterSource
 
 import crnplan as crn
+from ..arguments import KINDS
 from ..options import Option
-from ..table import DataTable, Result, csv_style
+from ..table import Result
+from ..vocabulary import FLAG, PAIRS, TEXTS, Word
 from . import COMMANDS, options_of
 
-PICTURES = (".png", ".svg")
+PICTURE = ".svg"
 # The types of options by their kind. All others are texts, but for those whose type depends on more.
 TYPES: dict[str, Any] = {
     "number": float,
-    "share": float,
-    "part": click.FloatRange(0, 1, min_open=True),
-    "column": str.strip,
     "path": click.Path(),
     "folder": click.Path(path_type=Path),
     "file": click.Path(dir_okay=False, path_type=Path),
-    "file and column": (str, str.strip),
 }
 
 
 def picture(
     context: click.Context, parameter: click.Parameter, word: str | None
 ) -> Path | None:
-    """Returns the path of a picture, whose ending says its kind. Raises Refused for another ending."""
+    """Returns the path of a picture, which is SVG. Raises Refused for another ending."""
     if word is None:
         return None
-    if not word.lower().endswith(PICTURES):
-        raise crn.Refused(f"{word!r} does not end with {' or '.join(PICTURES)}")
+    if not word.lower().endswith(PICTURE):
+        raise crn.Refused(f"{word!r} does not end with {PICTURE}")
     return Path(word)
 
 
-def pairs(
-    option: Option,
-    context: click.Context,
-    parameter: click.Parameter,
-    words: tuple[str, ...],
-) -> dict[str, str]:
-    """Returns texts by name, from words of the form of an option. Raises Refused for the first word of another form, or
-    that says something else of a name than one before."""
-    texts = dict[str, str]()
-    for word in words:
-        pair = re.fullmatch(option.form, word)
-        if pair is None:
-            raise crn.Refused(
-                f"{option.flag} {word!r} is not {option.metavar}, as {option.example}"
-            )
-        name, text = (pair[1] or "").strip(), pair[2].strip()
-        if texts.setdefault(name, text) != text:
-            raise crn.Refused(
-                f"{option.flag} {word!r}: {texts[name]!r} is said of the same",
-                "leave one",
-            )
-    return texts
-
-
-def percent(
-    option: Option, context: click.Context, parameter: click.Parameter, word: str | None
+def share(
+    option: Option, context: click.Context, parameter: click.Parameter, text: str | None
 ) -> float | None:
     """Returns a share, as 2% or 0.02. Raises Refused for a number that may be either."""
-    from ..read.amounts import share_of
-
-    if word is None:
-        return None
-    try:
-        return float(share_of(word))
-    except crn.Refused as why:
-        raise crn.Refused(f"{option.flag} {why.what}", why.advice) from why
-
-
-def style(context: click.Context, parameter: click.Parameter, name: str) -> None:
-    """Writes the tables of the command in a style."""
-    context.with_resource(csv_style(name))
+    return None if text is None else KINDS[option.kind](option, text)
 
 
 def type_of(option: Option) -> Any:
     """Returns the type of an option, as click has it. The greatest number of a word that is a key too is checked where all
     such words are."""
-    if option.kind in ("choice", "style"):
+    if option.kind == "choice":
         return click.Choice([*option.choices])
     if option.kind != "whole":
         return TYPES.get(option.kind)
     if not option.range:
         return int
     least, *most = option.range
-    return click.IntRange(least, most[0] if most and not option.key else None)
+    return click.IntRange(least, most[0] if most else None)
 
 
-def parameter_of(option: Option) -> Callable[[Callable[..., Any]], Callable[..., Any]]:
+def word_parameter(word: Word) -> Callable[[Callable[..., Any]], Callable[..., Any]]:
+    """Returns a decorator that adds a word of reading or planning to a command, as texts that the word reads."""
+    facts: dict[str, Any] = {"metavar": word.kind.metavar, "help": word.help}
+    if word.kind.shape == FLAG:
+        facts = {"is_flag": True, "default": None, "help": word.help}
+    elif word.kind.shape in (TEXTS, PAIRS):
+        facts["multiple"] = True
+        facts["help"] += " May be given several times."
+    return click.option(word.flag, word.name, **facts)
+
+
+def parameter_of(
+    option: Option | Word,
+) -> Callable[[Callable[..., Any]], Callable[..., Any]]:
     """Returns a decorator that adds an option or an argument to a command."""
+    if isinstance(option, Word):
+        return word_parameter(option)
     facts: dict[str, Any] = {
         "type": type_of(option),
         "metavar": option.metavar,
@@ -115,23 +92,15 @@ def parameter_of(option: Option) -> Callable[[Callable[..., Any]], Callable[...,
     }
     match option.kind:
         case "flag":
-            facts = {
-                "help": option.help,
-                "is_flag": True,
-                "default": option.default if option.key else False,
-            }
+            facts = {"help": option.help, "is_flag": True}
         case "form":
             facts = {"help": option.help, "flag_value": option.flag.removeprefix("--")}
         case "texts":
             facts["multiple"] = True
-        case "pairs" | "shares":
-            facts |= {"multiple": True, "callback": partial(pairs, option)}
-        case "percent":
-            facts["callback"] = partial(percent, option)
+        case "share":
+            facts["callback"] = partial(share, option)
         case "picture":
             facts["callback"] = picture
-        case "style":
-            facts |= {"callback": style, "expose_value": False}
     return click.option(option.flag, option.name, **facts)
 
 
@@ -152,30 +121,14 @@ def command(
     return made
 
 
-def read_for(
-    path: str, horizon: int | None, stock: int | None, long_run: bool, is_table: bool
-) -> crn.Scenario:
-    """Reads a scenario for its horizon. If that is named by periods or stock, a line on standard error says it, unless
-    the output is a table for a reader: which says it in its heading."""
-    named = {}
-    if horizon is not None:
-        named["periods"] = horizon
-    if stock is not None:
-        named["initial"] = stock
-    if long_run and named:
-        click.get_current_context().fail(
-            "--long-run has no --horizon and no --stock: give one or the other"
-        )
-    scenario = crn.Scenario.read(path)
-    if not named:
-        return scenario
-    scenario = scenario.changed(**named)
-    if not is_table:
-        from ..decide.verdicts import horizon_of
-        from ..words import sentence
-
-        click.echo(f"The {sentence(horizon_of(scenario))}", err=True)
-    return scenario
+def refuse_words(names: Collection[str], said: str) -> None:
+    """Ends with a refusal if one of some options of the command is given. `said` is what they belong to."""
+    context = click.get_current_context()
+    for parameter in context.command.params:
+        name = parameter.name or ""
+        is_given = context.get_parameter_source(name) is not ParameterSource.DEFAULT
+        if name in names and is_given:
+            context.fail(f"{parameter.opts[0]} is that of {said}")
 
 
 def show(result: Result, form: str | None) -> None:
@@ -187,11 +140,3 @@ def show(result: Result, form: str | None) -> None:
         print(json.dumps(result.tree, indent=2))
     else:
         print(result.text, end="")
-
-
-def show_rows(table: DataTable, form: str | None) -> None:
-    """Prints a table as a text, as `csv`, or its rows as `json`, with fractions as texts."""
-    if form == "json":
-        print(json.dumps(table.records, indent=2))
-    else:
-        print(table.csv if form else table.text, end="")

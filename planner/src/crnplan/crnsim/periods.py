@@ -18,13 +18,15 @@ from ..policies import Levels
 class Past:
     """What happened in each period: the demand, what customers gave back, and the lead time that an order would have
     had that was placed then, in periods. One in `review` periods has a review, and that of the number `first` has one:
-    crnsim reviews in each period."""
+    crnsim reviews in each period. Orders are rounded up to packs of so many items: those of crnsim are not.
+    """
 
     demands: Sequence[int]
     returns: Sequence[int]
     leads: Sequence[int]
     review: int = 1
     first: int = 0
+    pack: int = 1
 
 
 class Rates(NamedTuple):
@@ -64,12 +66,10 @@ class Period(NamedTuple):
         return cost
 
 
-def periods_of(
-    past: Past, levels: Iterable[Levels], initial: int, pack: int = 1
-) -> list[Period]:
+def periods_of(past: Past, levels: Iterable[Levels], initial: int) -> list[Period]:
     """Returns the periods of a policy that starts with a stock and nothing on order.
 
-    Its s and S may change from one period to the next. Orders are rounded up to packs of so many items.
+    Its s and S may change from one period to the next.
     """
     stock = position = initial
     due = defaultdict[int, int](int)
@@ -79,7 +79,7 @@ def periods_of(
         offered = stock + due.pop(number, 0) + returned
         ordered = 0
         if position < s and (number - past.first) % past.review == 0:
-            ordered = -(-(S - position) // pack) * pack
+            ordered = -(-(S - position) // past.pack) * past.pack
             due[number + lead] += ordered
         unmet = demand - min(demand, max(offered, 0))
         net_demand = demand - returned

@@ -241,7 +241,7 @@ def _check_status(program: Path, status: int, said: str) -> None:
             f"{program}: {line}",
             "look for memory and processes of this machine, and run again",
         )
-    hint = "; crnplan why says why" * (status == status_of("scenario"))
+    hint = "; crnplan run says why" * (status == status_of("scenario"))
     if status:
         raise ProgramError(f"{program}: {line}{hint}")
 

@@ -45,6 +45,11 @@ HEADER = list(formats.COLUMNS)
 WHOLE = re.compile("-?[0-9]{1,40}")
 FRACTION = re.compile("-?[0-9]{1,60}/[1-9][0-9]{0,59}")
 COLUMNS = columns_of("crnsim", "report")
+# Totals in the money that a scenario was made from may be no whole numbers.
+MONEY_COLUMNS = [
+    dataclasses.replace(column, kind="exact") if column.unit == "money" else column
+    for column in COLUMNS
+]
 NO_COSTS = Costs(0, 0, 0, 0)
 # Columns whose cell may be `-`, which stands for no figure.
 MAY_LACK = ("diff_var", "cov")
@@ -52,7 +57,7 @@ MAY_LACK = ("diff_var", "cov")
 
 @dataclass(frozen=True)
 class Row:
-    """A row of a report: a policy (s and S in items), and its exact costs in the scenario's money.
+    """A row of a report: a policy (s and S in items), and its exact costs in the money that its scenario was made from.
 
     Differences are from the costs of the first policy, as docs/FORMATS.md defines them. `diff_var` and `cov` are None
     with one replication, and if they are not known.
@@ -61,17 +66,31 @@ class Row:
     policy: str
     s: int
     S: int
-    total: int
+    total: int | Fraction
     per_period: Fraction
-    diff_total: int
+    diff_total: int | Fraction
     diff_mean: Fraction
     diff_var: Fraction | None
     cov: Fraction | None
 
+    def times(self, factor: Fraction) -> Row:
+        """Returns the row with so many units of another money for one."""
+        if factor == 1:
+            return self
+        return dataclasses.replace(
+            self,
+            total=self.total * factor,
+            per_period=self.per_period * factor,
+            diff_total=self.diff_total * factor,
+            diff_mean=self.diff_mean * factor,
+            diff_var=self.diff_var and self.diff_var * factor**2,
+            cov=self.cov and self.cov * factor**2,
+        )
 
-def table_of(rows: Iterable[Row]) -> DataTable:
-    """Returns rows as a table, indexed by `policy`. As CSV it is the report that the program would write."""
-    return DataTable.of(COLUMNS, [*rows], index="policy")
+
+def csv_of(rows: Iterable[Row], scale: Fraction = Fraction(1)) -> str:
+    """Returns rows as the program would write them, in its whole numbers: one of money counts `scale` there."""
+    return DataTable.of(COLUMNS, [row.times(scale) for row in rows]).csv
 
 
 def _refused(what: str, place: str, line: int) -> Refused:
@@ -81,7 +100,7 @@ def _refused(what: str, place: str, line: int) -> Refused:
 def _value(name: str, cell: str, place: str, line: int) -> Any:
     if name == "policy":
         for fault in name_faults(("policy",), cell):
-            raise _refused(f"column policy: {fault.reason}", place, line)
+            raise _refused(f"column policy: {fault.what}", place, line)
         return cell
     if cell == "-" and name in MAY_LACK:
         return None
@@ -128,7 +147,8 @@ def read_rows(text: str, place: str = "") -> list[Row]:
 
 
 def rows_of(scenario: Scenario, text: str, program: str | Path) -> list[Row]:
-    """Returns the rows of the report on a scenario. Raises ProgramError if the program's output is no such report."""
+    """Returns the rows of the report on a scenario, in the money that it was made from. Raises ProgramError if the
+    program's output is no such report."""
     try:
         rows = read_rows(text, str(program))
     except Refused:
@@ -139,7 +159,7 @@ def rows_of(scenario: Scenario, text: str, program: str | Path) -> list[Row]:
             f"{program}: what it writes is no report of the scenario; name crnsim with "
             f"{argument('program')}"
         )
-    return rows
+    return [row.times(1 / scenario.scale) for row in rows]
 
 
 def pooled(
@@ -180,9 +200,8 @@ def pooled(
 
 def counting(scenario: Scenario, cost: str) -> Scenario:
     """Returns a scenario with one cost at 1 and the others at 0."""
-    return dataclasses.replace(
-        scenario, costs=dataclasses.replace(NO_COSTS, **{cost: 1})
-    )
+    costs = dataclasses.replace(NO_COSTS, **{cost: 1})
+    return dataclasses.replace(scenario, costs=costs, scale=Fraction(1))
 
 
 def parts_of(scenario: Scenario) -> list[Scenario]:
@@ -208,20 +227,21 @@ def joined(reports: Sequence[Sequence[Row]], program: str | Path) -> list[Row]:
 
 @dataclass(frozen=True, eq=False, repr=False)
 class Report(Result):
-    """What crnsim reports of a scenario: exact rows, the base first."""
+    """What crnsim reports of a scenario: exact rows, the base first, in the money that the scenario was made from."""
 
     rows: tuple[Row, ...]
     scenario: Scenario
 
     @property
     def text(self) -> str:
-        """Returns the report as the program writes it."""
-        return self.table.csv
+        """Returns the report as the program writes it: in whole numbers, as the `costs` of the scenario."""
+        return csv_of(self.rows, self.scenario.scale)
 
     @property
     def table(self) -> DataTable:
         """Returns the rows, indexed by `policy`: whole numbers, fractions, or None if there is no figure."""
-        return table_of(self.rows)
+        columns = COLUMNS if self.scenario.scale == 1 else MONEY_COLUMNS
+        return DataTable.of(columns, self.rows, index="policy")
 
     @property
     def tree(self) -> dict[str, Json]:
@@ -230,9 +250,11 @@ class Report(Result):
 
     def floats(self) -> pd.DataFrame:
         """Returns the frame with rounded floats in place of fractions, and nan in place of None."""
-        return self.frame.astype({name: float for name in formats.FRACTIONS})
+        names = [*formats.FRACTIONS]
+        names += [it.name for it in self.table.columns if it.kind == "exact"]
+        return self.frame.astype(dict.fromkeys(names, float))
 
-    @judged("plan")
+    @judged("call")
     def decide(self, level: float = 0.95) -> Decision:
         """Returns all policies by rank, the cheapest first, with paired-t intervals and verdicts.
 

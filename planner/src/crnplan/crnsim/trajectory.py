@@ -10,6 +10,7 @@ import re
 from bisect import bisect_right
 from collections.abc import Iterable, Sequence
 from dataclasses import astuple, dataclass, replace
+from fractions import Fraction
 from pathlib import Path
 from typing import TYPE_CHECKING, NamedTuple, overload
 
@@ -26,11 +27,9 @@ from .program import find_program, run_all
 from .report import report_of
 
 if TYPE_CHECKING:
-    from matplotlib.figure import Figure
+    from ..show.pictures import Picture
 
 JOBS = 8  # runs at a time: each is short, so that starting it takes most of its time
-MOST_DRAWN = 208
-MOST_POLICIES = 8
 PERIODS_OF_BLOCK = 4
 # The words of a block as the program writes them: a line with its name for each of formats.DRAWS.
 WORDS = re.compile(
@@ -87,8 +86,8 @@ class Trajectories(Result, Sequence[list[Period]]):
         """Returns the periods: policy, period, ordered, net_demand, stock, position, in items."""
         return table_of([policy.name for policy in self.scenario.policies], self.runs)
 
-    def plot(self) -> Figure:
-        """Returns a picture of stock, position and orders, one policy below another."""
+    def plot(self) -> Picture:
+        """Draws stock, position and orders, one policy below another."""
         from ..show.pictures import trajectories_picture
 
         scenario = self.scenario
@@ -102,33 +101,6 @@ def table_of(names: Iterable[str], shown: Iterable[Sequence[Period]]) -> DataTab
         for number, period in enumerate(periods):
             rows.append(PeriodOf(name, number, period))
     return DataTable.of(COLUMNS, rows)
-
-
-def chosen(scenario: Scenario, names: Sequence[str]) -> list[Policy]:
-    """Returns the policies with these names, in this order. Raises Refused if one is missing, or for too many."""
-    known = {policy.name: policy for policy in scenario.policies}
-    for name in names:
-        if name not in known:
-            raise Refused(
-                f"there is no policy {name!r}; the scenario has {', '.join(known)}"
-            )
-    if len(set(names)) != len(names) or not 1 <= len(names) <= MOST_POLICIES:
-        raise Refused(f"give 1 to {MOST_POLICIES} policies, each once")
-    return [known[name] for name in names]
-
-
-def shown_periods(scenario: Scenario, asked: int | None, is_drawn: bool) -> int:
-    """Returns how many periods are shown: `asked`, or as many as a picture has room for."""
-    periods = min(scenario.periods, MOST_DRAWN) if asked is None else asked
-    if not 1 <= periods <= scenario.periods:
-        raise Refused(
-            f"{argument('periods', str(periods))}: the scenario has 1 to {scenario.periods} periods"
-        )
-    if is_drawn and periods > MOST_DRAWN:
-        raise Refused(
-            f"{argument('periods', str(periods))}: a picture has room for {MOST_DRAWN} periods"
-        )
-    return periods
 
 
 def drawn(law: Law | None, words: Sequence[int]) -> list[int]:
@@ -166,7 +138,7 @@ def draws_of(scenario: Scenario, periods: int, program: Path) -> Past:
     )
 
 
-@judged("call", "trajectory", "common")
+@judged("call", "common")
 def trajectories(
     scenario: Scenario, periods: int, *, program: str | Path | None = None
 ) -> Trajectories:
@@ -206,10 +178,16 @@ def trajectories(
     [17, 17, 13]
     """
     path = find_program(program)
-    periods = shown_periods(scenario, periods, False)
+    if periods > scenario.periods:
+        raise Refused(
+            f"{argument('periods', str(periods))}: the scenario has 1 to {scenario.periods} periods"
+        )
     past = draws_of(scenario, periods, path)
     report = report_of(
-        replace(scenario, periods=periods, replications=1, source=None), path
+        replace(
+            scenario, periods=periods, replications=1, source=None, scale=Fraction(1)
+        ),
+        path,
     )
     rates = Rates(*astuple(scenario.costs))
     shown = list[list[Period]]()

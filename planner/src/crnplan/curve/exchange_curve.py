@@ -10,7 +10,7 @@ import json
 import math
 from collections.abc import Iterable, Iterator, Mapping
 from dataclasses import dataclass, replace
-from functools import cached_property, partial
+from functools import cached_property
 from pathlib import Path
 from typing import TYPE_CHECKING, Any, NamedTuple
 
@@ -37,7 +37,8 @@ from .past import CurvePast
 
 if TYPE_CHECKING:
     import pandas as pd
-    from matplotlib.axes import Axes
+
+    from ..show.pictures import Picture
 
 CURVE, POLICIES, LEFT_OUT = "curve.csv", "curve_policies.csv", "curve_left_out.csv"
 
@@ -221,20 +222,15 @@ class Drawn(Result):
         tried = f"{TRIED_SO} Tried: {self.tried:,} items."
         return "\n".join((tried, f"{MET} All other {BY_THEORY}", *NOTES))
 
-    def plot(self, ax: Axes | None = None) -> Axes:
-        """Draws the curve with its named points, and returns the axes.
-
-        Parameters
-        ----------
-        ax : matplotlib.axes.Axes, optional
-            Where to draw; by default on a new figure.
-        """
+    def plot(self) -> Picture:
+        """Draws the curve with its named points."""
+        from ..show.curves import exchange_plot
         from ..show.page import Money
-        from ..show.pictures import draw_exchange, exchange_size, on_axes
+        from ..show.pictures import Picture
 
+        line = [("", point) for _, point in self.curve]
         money = Money(self.currency.code, self.currency.decimals)
-        words = {"curve": self.curve, "named": self.named, "money": money}
-        return on_axes(partial(draw_exchange, **words), exchange_size(self.named), ax)
+        return Picture.of([exchange_plot([*self.named.items(), *line], money)])
 
     @property
     def policies(self) -> pd.DataFrame:

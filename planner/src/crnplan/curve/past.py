@@ -86,7 +86,7 @@ def tried_of(
         return [today, chosen.levels, *best_by(question, cases)]
 
     item, on = flat_of(item, settings)
-    unmet = in_blocks(item, on, prior, planned)
+    unmet = in_blocks(item, on, prior, planned, pack=item.bounds.pack)
     weight = float(item.price or 0) / len(item.counts)
     return Offer(weight * sum(item.counts), tuple((weight * unmet).tolist()))
 

@@ -103,7 +103,7 @@ class LongRunReport(Result):
         """Returns what is taken from the cost of a period of each policy."""
         scenario = self.scenario
         net = scenario.demand.mean - (scenario.returns.mean if scenario.returns else 0)
-        usual = scenario.costs.unit * float(net)
+        usual = scenario.money(scenario.costs.unit) * float(net)
         return [total / scenario.periods + usual for total in self.bias.biases]
 
     @cached_property
@@ -143,7 +143,7 @@ class LongRunReport(Result):
             rows.append({"row": row, "estimate": estimate, "variance": variance})
         return DataTable.of(COLUMNS, rows, index="policy")
 
-    @judged("plan")
+    @judged("call")
     def decide(self, level: float = 0.95) -> Decision:
         """Returns all policies, the cheapest first, with paired-t intervals of a period, verdicts, and theory's figures beside.
 
@@ -249,31 +249,9 @@ def long_run_of(
     return LongRunReport.of(report_of(asked, program).rows, asked, keys)
 
 
-def corrected_decision(
-    rows: Sequence[Row], scenario: Scenario, level: float = 0.95
-) -> Decision:
-    """Compares the policies of a report in the long run: theory's bias of the common start is taken out.
-
-    The report is on the scenario, perhaps with other policies. Raises Refused with one replication, and NoTheory.
-    """
-    if scenario.replications < 2:
-        raise Refused(
-            "one replication tells nothing of spread; give the report of at least 2"
-        )
-    report = LongRunReport.of(rows, scenario, scenario.replications)
-    decision = report.decide(level)
-    if not report.strong:
-        return decision
-    strong = Remark(
-        "strong start",
-        {"policies": names_of(report.strong, MOST_ROWS), "most": MOST_EFFECT},
-    )
-    return replace(decision, warnings=(*decision.warnings, strong))
-
-
 def end_warning(scenario: Scenario, rows: Sequence[Row]) -> list[Remark]:
     """Returns the warning that `unit` charges what is left at the end, if policies are compared: in long-run means."""
-    unit, base = scenario.costs.unit, rows[0].policy
+    unit, base = scenario.money(scenario.costs.unit), rows[0].policy
     if unit == 0 or len(rows) < 2:
         return []
     effects = end_effects(scenario, rows)

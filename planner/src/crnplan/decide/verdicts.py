@@ -11,26 +11,21 @@ from __future__ import annotations
 
 import functools
 import math
-import sys
 from collections.abc import Iterator, Sequence
 from dataclasses import dataclass
 from fractions import Fraction
-from pathlib import Path
 from typing import NamedTuple
 
-from .. import formats
 from ..columns import columns_of
-from ..crnsim.report import Row, read_rows
+from ..crnsim.report import Row
 from ..errors import Refused, argument
 from ..remarks import Remark
-from ..policies import Policy
 from ..scenario import BY_ITS_LAWS, Scenario
 from ..table import DataTable, Json, Result, names_of
 from ..words import sentence
 
 Ends = tuple[float, float] | tuple[None, None]
 FEWEST_ORDERS = 2  # of the rarer policy of a comparison, in all replications
-MOST_KEYS = 64  # that a check may pool into one report
 POLICY = columns_of("decide", "policy")
 # The columns over the periods of a report, and those in the long run.
 COLUMNS = columns_of("decide", "coming")
@@ -150,7 +145,7 @@ def t_quantile(tails: float, degrees: int) -> float:
     return math.sqrt(degrees * (1 - inside) / inside)
 
 
-def _periods_of(row: Row, replications: int) -> Fraction | None:
+def periods_of(row: Row, replications: int) -> Fraction | None:
     """Returns the periods of a replication that a row implies: None if the policy costs nothing."""
     is_known = row.total and row.per_period
     return row.total / (row.per_period * replications) if is_known else None
@@ -251,7 +246,7 @@ def with_intervals(
     for row in rows:
         own = error = percent = None
         if replications > 1:
-            periods = float(_periods_of(row, replications) or 1)
+            periods = float(periods_of(row, replications) or 1)
             own = own_error(row, base, replications) / periods
             error = math.sqrt(row.diff_var or 0)
         if base.total:
@@ -265,78 +260,6 @@ def with_intervals(
 def with_verdict(rows: Sequence[Compared], verdict: str) -> list[str]:
     """Returns the names of the policies that have a verdict."""
     return [row.policy for row in rows if row.verdict == verdict]
-
-
-def _is_of(row: Row, base: Row, replications: int) -> bool:
-    """Returns whether a row can be of a report with this number of replications and this base."""
-    if not 1 <= replications <= formats.MOST_REPLICATIONS * MOST_KEYS:
-        return False
-    periods, of_base = _periods_of(row, replications), _periods_of(base, replications)
-    if (
-        row.diff_mean * replications != row.diff_total
-        or row.total - base.total != row.diff_total
-        or row.total < 0
-    ):
-        return False
-    if periods is not None and (
-        periods.denominator != 1 or of_base not in (None, periods)
-    ):
-        return False
-    if replications == 1 or row.diff_var is None or row.cov is None:
-        return replications == 1 and row.diff_var is None and row.cov is None
-    return row.diff_var >= 0 and own_variance(row, base, replications) >= 0
-
-
-def check_replications(rows: Sequence[Row], replications: int, place: str) -> None:
-    """Raises Refused if a row is of no report of this number of replications. `place` names the report."""
-    for line, row in enumerate(rows, 2):
-        if not _is_of(row, rows[0], replications):
-            raise Refused(
-                f"{place}:{line}: this is no report of {replications} replications; give its own number"
-            )
-
-
-def read_report(path: str | Path, replications: int) -> list[Row]:
-    """Reads the rows of a report; `-` is standard input. Raises Refused if it is none of so many replications."""
-    name = "standard input" if str(path) == "-" else str(path)
-    try:
-        data = sys.stdin.buffer.read() if str(path) == "-" else Path(path).read_bytes()
-        rows = read_rows(data.decode("utf-8"), name)
-    except OSError as fault:
-        raise Refused(
-            f"{name}: {fault.strerror}; name a report that crnsim has written"
-        ) from fault
-    except UnicodeDecodeError as fault:
-        raise Refused(f"{name}: this is no report of crnsim: {fault}") from fault
-    check_replications(rows, replications, name)
-    return rows
-
-
-def check_policies(
-    rows: Sequence[Row],
-    policies: Sequence[Policy],
-    report: str,
-    scenario: str,
-    sweep: bool,
-) -> None:
-    """Raises Refused if the rows are not those of a scenario's policies, of a sweep the first one: names of both files."""
-    given = [(row.policy, row.s, row.S) for row in rows]
-    wanted = [(policy.name, policy.s, policy.S) for policy in policies]
-    if sweep:
-        given, wanted = given[:1], wanted[:1]
-    for number, (one, other) in enumerate(zip(given, wanted), 1):
-        if one != other:
-            raise Refused(
-                "{}: policy {} is {} ({}, {}), but in {} it is {} ({}, {}); give the report's own scenario".format(
-                    report, number, *one, scenario, *other
-                )
-            )
-    if len(given) != len(wanted):
-        is_sweep = given[:1] == wanted[:1] and len(given) > len(wanted)
-        hint = f"; for a table of crnplan sweep add {argument('sweep')}" * is_sweep
-        raise Refused(
-            f"{report}: it has {len(given)} policies, but {scenario} has {len(wanted)}{hint}"
-        )
 
 
 def horizon_of(scenario: Scenario) -> Remark:

@@ -18,7 +18,6 @@ from ..chances import Floats, Whole, add_times, cut, in_items, mixture, scaled
 from ..compiled import compiled
 from ..formats import MOST_DEMAND
 from ..law import Law
-from ..read.observed import Observed
 from ..remarks import Remark
 from .fitted import Borrowed, Diagnostics, FittedLaw, seen_law
 from .fitting import boxes_of, cap_of, family_law, share_of
@@ -177,7 +176,7 @@ def why_alone(prior: Prior, sample: Sample, box: int) -> Remark | None:
 
 
 def sample_of(
-    observed: Observed | Iterable[Any], box: int, is_new: bool
+    observed: Iterable[Any], box: int, is_new: bool
 ) -> tuple[list[int], Sample]:
     """Returns a history in boxes, and as a sample. That of a new item may have no periods."""
     is_empty = is_new and isinstance(observed, tuple) and not observed
@@ -218,7 +217,7 @@ def looked_at(
 
 def law_of(
     prior: Prior,
-    observed: Observed | Iterable[Any],
+    observed: Iterable[Any],
     item_class: str | None = None,
     *,
     box: int = 1,
@@ -251,7 +250,7 @@ def law_of(
 
 def borrowed_laws(
     prior: Prior,
-    observed: Observed | Iterable[Any],
+    observed: Iterable[Any],
     item_class: str | None = None,
     *,
     times: int = 100,

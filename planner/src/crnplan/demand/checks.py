@@ -9,7 +9,6 @@ import numpy as np
 
 from ..arguments import judged
 from ..money import Number
-from ..read.observed import History, Observed
 from ..read.quiet import chance_of_quiet, quiet_periods
 from ..remarks import Remark, Value
 from ..words import advised, sentence
@@ -90,22 +89,20 @@ class Checks:
         return "\n".join([*lines, ""])
 
 
-@judged("fit", "settings.history")
-def check_history(
-    demand: Observed | Iterable[Number], *, season: int | None = None
-) -> Checks:
-    """Checks a history of demand, or any whole numbers from 0, one for each period in their order.
+@judged("fit")
+def check_history(demand: Iterable[Number], *, season: int | None = None) -> Checks:
+    """Checks the demand of periods in their order: whole numbers from 0.
 
     Permutation tests look for autocorrelation (Ljung and Box), a trend (Spearman), a shift of the level, and a season
-    (Kruskal and Wallis) from two years on. With dates the calendar says the seasons: weekdays of days, and quarters of a
-    year. Notes name few periods with demand, a long time without any, packs, and demands far above all others.
+    (Kruskal and Wallis) of a stated length. Notes name few periods with demand, a long time without any, packs, and demands far
+    above all others.
 
     Parameters
     ----------
-    demand : History or iterable of int
+    demand : iterable of int
         The demand of each period, in items. Unknown ones (None, NaN) are left out, and are no neighbours of others.
     season : int, optional
-        The periods of another season, at least 2. Without dates there is none unless it is given.
+        The periods of a season, at least 2: 52 of weeks, 12 of months.
 
     Returns
     -------
@@ -124,10 +121,7 @@ def check_history(
     """
     known = placed_numbers(demand, "demand", may_lack=True)
     numbers, places = [*known.values()], [*known]
-    if isinstance(demand, History):
-        every, first = demand.every, demand.first
-        return _checked(numbers, every, first, season, True, places)
-    checks = _checked(numbers, None, 1, season, True, places)
+    checks = checks_of(numbers, places=places, season=season)
     lacking = places[-1] + 1 - len(places)
     if lacking:
         facts: dict[str, Value] = {"count": lacking, "periods": places[-1] + 1}
@@ -140,24 +134,28 @@ def remarks_of(
     numbers: Sequence[int],
     every: str | None = None,
     first: int = 1,
-    season: int | None = None,
     places: Sequence[int] | None = None,
+    sold: Sequence[int] | None = None,
 ) -> tuple[Remark, ...]:
     """Returns the warnings and the notes of `check_history` on whole numbers, which takes a few milliseconds. `every`
-    and `first` are those of `History`, and `places` those of the numbers' periods, from 0: by default one after
-    another."""
-    checks = _checked(numbers, every, first, season, False, places)
+    is their period, if they have dates, `first` the number of the first one, and `places` has those of all, from 0: by
+    default they stand one after another. If the numbers are without a season, the notes name what was `sold`.
+    """
+    checks = checks_of(numbers, every, first, False, places, sold)
     return *checks.warnings, *checks.notes
 
 
-def _checked(
+def checks_of(
     numbers: Sequence[int],
-    every: str | None,
-    first: int,
-    season: int | None,
-    in_full: bool,
+    every: str | None = None,
+    first: int = 1,
+    in_full: bool = True,
     places: Sequence[int] | None = None,
+    sold: Sequence[int] | None = None,
+    season: int | None = None,
 ) -> Checks:
+    """Returns the checks of whole numbers; in full with what the tests can't see, and with the largest demands. All else
+    is as in `remarks_of`, and `season` as in `check_history`."""
     if places is None or not places or len(places) == places[-1] + 1:
         places = None  # the numbers have no gaps
     size = len(numbers) if places is None else places[-1] + 1
@@ -165,7 +163,7 @@ def _checked(
     if places is not None:
         of_known = (season.at(places) for season in seasons)
         seasons = [season for season in of_known if season.is_whole]
-    facts = Facts(numbers, seasons, every, first, known=places)
+    facts = Facts(numbers, seasons, every, first, known=places, sold=sold)
     checks = Checks(
         len(numbers), len(numbers) - numbers.count(0), tests_of(facts, in_full)
     )
@@ -249,7 +247,9 @@ def _notes(facts: Facts) -> Iterator[Remark]:
         )
         return
     far = len(outliers_of(demands, pack))
-    if far:
+    if far and facts.sold:
+        yield Remark("far in season", _largest(facts, far))
+    elif far:
         yield Remark("far demands", {"next": demands[far], **_largest(facts, far)})
 
 
@@ -291,9 +291,9 @@ def largest_periods(
 
 def _largest(facts: Facts, count: int) -> dict[str, Value]:
     """Returns the largest demands with their periods, as facts."""
-    places = largest_places(facts.numbers, count)
+    places, sold = largest_places(facts.numbers, count), facts.sold or facts.numbers
     demands: dict[str, Value] = {
-        f"demand_{rank}": facts.numbers[place] for rank, place in enumerate(places, 1)
+        f"demand_{rank}": sold[place] for rank, place in enumerate(places, 1)
     }
     return demands | {
         f"period_{rank}": facts.name(place) for rank, place in enumerate(places, 1)

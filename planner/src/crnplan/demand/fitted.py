@@ -2,25 +2,23 @@
 from __future__ import annotations
 
 from collections.abc import Callable, Iterable, Iterator, Mapping, Sequence
-from dataclasses import dataclass, field, replace
+from dataclasses import dataclass, field
 from functools import cached_property
 from typing import Any, cast
 
 import numpy as np
 
-from ..errors import Fault, Refused
+from ..errors import Fault, Refused, RefusedFaults
 from ..formats import MOST_WEIGHT
 from ..law import Law
-from ..money import whole
-from ..read.faults import RefusedFiles
-from ..read.frames import is_missing
+from ..money import is_missing, whole
 from ..read.item import STATED
-from ..read.observed import Observed
 from ..remarks import Remark
-from ..words import advised, counted, sentence
+from ..words import counted, sentence
 from . import EMPIRICAL, LEAST_DEMANDS
 from .sample import Shares
 
+MOST_NAMED = 20  # of the faults of numbers
 QUANTILES = (0.95, 0.99, 0.999)
 LEAST_WEIGHT = 0.005  # of a family that is named
 LEAST_MEAN, LEAST_VARIANCE = (
@@ -64,13 +62,6 @@ class Figures:
             law.values[-1],
             dict(zip(QUANTILES, values[places].tolist())),
         )
-
-    def __str__(self) -> str:
-        variance = "-" if self.variance is None else f"{self.variance:.4g}"
-        quantiles = ", ".join(
-            f"{100 * share:g}% {value}" for share, value in self.quantiles.items()
-        )
-        return f"mean {self.mean:.4g}, variance {variance}, quantiles {quantiles}, largest {self.most}"
 
 
 @dataclass(frozen=True)
@@ -229,7 +220,7 @@ def seen_law(numbers: Sequence[int]) -> Law:
 
 
 def numbers_of(
-    observed: Observed | Iterable[Any],
+    observed: Iterable[Any],
     what: str,
     wrong: Callable[[int, int], str] = lambda number, most: "",
     may_lack: bool = False,
@@ -237,45 +228,40 @@ def numbers_of(
     """Returns the numbers of `placed_numbers`.
 
     `wrong` says by a number and the largest one why a scenario can't have it; it is nothing between two numbers that a
-    scenario can have. Raises RefusedFiles with the places of all such numbers, and as `placed_numbers` does.
+    scenario can have. Raises RefusedFaults with the places of all such numbers, and as `placed_numbers` does.
     """
     known = placed_numbers(observed, what, may_lack)
     numbers = [*known.values()]
     most = max(numbers, default=0)
-    if numbers and (wrong(most, most) or wrong(min(numbers), most)):
-        reasons = [wrong(number, most) for number in numbers]
-        places = (
-            map(observed.places.__getitem__, known)
-            if isinstance(observed, Observed)
-            else (
-                Fault(f"{what}: entry {place + 1}, {number},")
-                for place, number in known.items()
-            )
-        )
-        faults = [
-            replace(place, said=f"{place.what} {reason}")
-            for place, reason in zip(places, reasons)
-            if place and reason
-        ]
-        if faults:
-            raise RefusedFiles(faults)
+    if wrong(most, most) or wrong(min(numbers), most):
+        faults = []
+        for place, number in known.items():
+            reason = wrong(number, most)
+            if reason:
+                faults.append(Fault(f"{what}: entry {place + 1}, {number}, {reason}"))
+        raise refused_numbers(faults)
     return numbers
 
 
+def refused_numbers(faults: Sequence[Fault]) -> RefusedFaults:
+    """Returns the error of numbers with faults, which names the first ones."""
+    lines = [fault.message for fault in faults[:MOST_NAMED]]
+    if len(faults) > MOST_NAMED:
+        lines.append(f"and {len(faults) - MOST_NAMED:,} more")
+    return RefusedFaults(faults, "\n".join(lines))
+
+
 def placed_numbers(
-    observed: Observed | Iterable[Any], what: str, may_lack: bool = False
+    observed: Iterable[Any], what: str, may_lack: bool = False
 ) -> dict[int, int]:
-    """Returns observed whole numbers of any kind, also floats that are whole, by their places from 0, without the unknown
-    periods of a history. If numbers `may_lack`, so are those of any sequence that are None or NaN. A Series of pandas by
+    """Returns observed whole numbers of any kind, also floats that are whole, by their places from 0. If
+    numbers `may_lack`, those that are None or NaN are left out. A Series of pandas by
     period has 0 in each period that it lacks.
 
     Raises Refused for what is no whole number, if there is none or there are too many, and for a Series by dates whose
     periods are not known, are not in order, or stand twice.
     """
-    if isinstance(observed, Observed):
-        known = {place: observed.counts[place] for place in observed.known_places}
-    else:
-        known = dict(enumerate(_dense(observed, what)))
+    known = dict(enumerate(_dense(observed, what)))
     if {*map(type, known.values())} != {int}:
         known = {
             place: whole(number, f"{what}: entry {place + 1}")
@@ -414,16 +400,3 @@ def _guard_words(family: str, shares: Shares, passes: bool) -> str:
         f"{shares.as_low:.2f}, as large a one with {shares.as_high:.2f}"
         + ": rejected" * (not passes)
     )
-
-
-def notes_of(law: FittedLaw, name: str) -> list[str]:
-    """Returns how a law was fitted and its figures, in lines under the name of a table; none of one that was asked for
-    as it was seen."""
-    lines = [*fit_words(law)]
-    if law.diagnostics.method != EMPIRICAL:
-        lines.append(f"seen: {law.diagnostics.history}")
-    if law.family != EMPIRICAL:
-        lines.append(f"law: {law.figures}")
-    if law.lower:
-        lines.append(advised(law.lower))
-    return [f"{name}: {line}" for line in lines]

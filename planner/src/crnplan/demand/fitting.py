@@ -21,7 +21,6 @@ from ..formats import MOST_DEMAND, MOST_LEAD
 from ..law import Law
 from ..money import Number
 from ..read.item import STATED
-from ..read.observed import Observed
 from . import EMPIRICAL, LEAD_METHODS
 from .families import (
     FAMILIES,
@@ -62,9 +61,7 @@ def below_0(number: int, most: int) -> str:
     return "is below 0; correct it" if number < 0 else ""
 
 
-def boxes_of(
-    observed: Observed | Iterable[Number], box: int, name: str = "demand"
-) -> list[int]:
+def boxes_of(observed: Iterable[Number], box: int, name: str = "demand") -> list[int]:
     """Returns the demand that is known in boxes of `box` items, rounded up. Raises RefusedFaults with the name and the place
     of each number that is too large for a scenario or below 0."""
     if box < 1:
@@ -200,9 +197,9 @@ def mixed_law(
     return known, mixture([(share, law), (1 - share, sample.law)])
 
 
-@judged("fit", "history")
+@judged("fit")
 def fit_demand(
-    demand: Observed | Iterable[Number],
+    demand: Iterable[Number],
     *,
     method: str = "auto",
     box: int = 1,
@@ -213,7 +210,7 @@ def fit_demand(
 
     Parameters
     ----------
-    demand : History or iterable of int
+    demand : iterable of int
         The demand of each period, in items. One that is None or NaN is not known, and left out, as are the unknown periods
         of a history.
     method : str, default "auto"
@@ -287,7 +284,7 @@ def stated_law(law: Law, counts: Sequence[int], box: int) -> FittedLaw:
     return FittedLaw.made(Law.of(weights), STATED, Diagnostics(seen, STATED), box)
 
 
-def leads_of(leads: Observed | Iterable[Number]) -> list[int]:
+def leads_of(leads: Iterable[Number]) -> list[int]:
     """Returns lead times in periods. Raises RefusedFaults with the place of each that is not from 1 to 32."""
     above = f"is above {MOST_LEAD}; take longer periods (weeks for days, months for weeks), for demands too"
     below = "is below 1; write 1 if the order is there for the next period's demand"
@@ -317,12 +314,12 @@ def sides_of(counts: Floats) -> Floats:
 
 
 @judged("fit")
-def fit_lead(leads: Observed | Iterable[Number], *, method: str = "auto") -> FittedLaw:
+def fit_lead(leads: Iterable[Number], *, method: str = "auto") -> FittedLaw:
     """Fits the law of lead times to observed ones.
 
     Parameters
     ----------
-    leads : LeadTimes or iterable of int
+    leads : iterable of int
         Whole numbers of periods, from 1 to 32.
     method : {"auto", "empirical"}, default "auto"
         With `empirical` each lead time counts as often as it was seen. `auto` moves a part of 2 to 19 observed ones to the

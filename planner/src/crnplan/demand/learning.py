@@ -19,10 +19,9 @@ from ..arguments import judged
 from ..chances import Floats, Whole
 from ..errors import Fault, Refused, RefusedFaults, argument
 from ..formats import MOST_DEMAND
-from ..money import exact
-from ..read.frames import is_missing, name_of
+from ..money import exact, is_missing
+from ..read.frames import name_of
 from ..read.item import BORROW
-from ..read.observed import Observed
 from ..toml.documents import shown
 from .fitted import numbers_of
 from .fitting import below_0
@@ -45,7 +44,7 @@ FLAT_ITEMS = 1  # that the flat prior counts for
 CLASS_ITEMS = 30  # that the prior of the catalogue counts for in a class
 MOST_PULLED = 300  # A class with more items has a prior of its own.
 
-Numbers = Observed | Sequence[int]
+Numbers = Sequence[int]
 Histories = Mapping[str, Numbers] | Iterable[Numbers]
 Classes = Mapping[str, str | None] | Iterable[str | None]
 

@@ -53,7 +53,8 @@ class Facts:
     """What is checked: numbers, the seasons that they are many enough for, the number of the first period, and `every`
     (day, week or month, None without dates). The differences between parts of the seasons that are `taken` out are not
     in the numbers that are `left`, which keep the mean. `known` has the places of the numbers' periods, from 0, rising, if
-    others between them are not known."""
+    others between them are not known. If the numbers are without a season, `sold` has those of the record.
+    """
 
     numbers: Sequence[int]
     seasons: Sequence[Season]
@@ -61,6 +62,7 @@ class Facts:
     first: int = 1
     taken: tuple[str, ...] = ()
     known: Sequence[int] | None = None
+    sold: Sequence[int] | None = None
 
     @cached_property
     def places(self) -> Whole:

@@ -29,7 +29,6 @@ from ..chances import Floats, cut, in_items, scaled
 from ..errors import Refused
 from ..formats import MOST_WEIGHT
 from ..law import Law
-from ..read.observed import Observed
 from .families import fits_of, near_of
 from .family import UNIFORMS, Family, Fit, Parameters
 from .fitting import (
@@ -195,7 +194,7 @@ def law_of_chances(chances: Floats, most: int) -> Law:
 
 
 def allowed_laws(
-    observed: Observed | Iterable[Any],
+    observed: Iterable[Any],
     *,
     times: int = 100,
     box: int = 1,
@@ -217,7 +216,7 @@ def allowed_laws(
 
 
 def allowed_leads(
-    observed: Observed | Iterable[Any], *, times: int = 100, seed: int = 1
+    observed: Iterable[Any], *, times: int = 100, seed: int = 1
 ) -> AllowedLaws:
     """Draws laws of lead times that the observed ones allow. The same seed gives the same laws.
 

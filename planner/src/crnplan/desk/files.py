@@ -1,7 +1,8 @@
 """The page Files: files are dropped, what they are is found or chosen, and what was read of them is shown."""
 from __future__ import annotations
 
-from collections.abc import Mapping
+import contextlib
+from collections.abc import Iterator, Mapping
 from dataclasses import replace
 from functools import partial
 from typing import Any
@@ -10,21 +11,23 @@ from flask import Blueprint, Response, redirect, request
 from werkzeug.wrappers import Response as Redirect
 
 from ..catalogues import Catalogue
-from ..errors import Refused, worded
+from ..errors import CrnplanError, Refused, worded
 from ..read.amounts import AMOUNTS
 from ..read.blocks import DATES
 from ..read.columns import COUNTED, ROLES
 from ..read.encodings import USUAL
 from ..read.glance import Glance, glances, likeliest, words_with
-from ..read.items import Words
-from ..read.told import words_from
+from ..read.items import Reading
+from ..read.stock import ON_ORDER
+from ..read.told import made_from
 from ..read.workbooks import sheets_of
 from ..show.catalogue_tables import REJECTS, reasons_of, rejects_of
 from ..show.control_tables import controls_of
 from ..show.lateness import lateness_of
 from .front import Front, front, page
-from .kept import PLANNED, TODAY, UNKNOWN, Desk, Dropped
+from .kept import PLANNED, TODAY, UNKNOWN, Desk, Dropped, State
 from .plans import command_on
+from .today_files import today_files
 from .work import READING, REFUSED
 
 pages = Blueprint("files", __name__)
@@ -49,7 +52,22 @@ def read_anew(own: Front) -> None:
     own.read()
 
 
-def looks_at(desk: Desk, file: Dropped, words: Words) -> list[Glance]:
+@contextlib.contextmanager
+def changing_files(own: Front) -> Iterator[State]:
+    """Gives the state to change files. Before other open orders replace those in use, it is kept which orders these name."""
+    desk = own.desk
+    with own.orders, own.lock, desk.changing() as state:
+        before, settled = desk.files_of(ON_ORDER), state.placed
+        if before and settled:
+            with contextlib.suppress(CrnplanError):
+                settled = today_files(own).settled(settled)
+        yield state
+        after = desk.files_of(ON_ORDER)
+        if before and after and not {*before} & {*after}:
+            state.placed = settled
+
+
+def looks_at(desk: Desk, file: Dropped, words: Reading) -> list[Glance]:
     """Returns what is seen of a file as a table of its kind, or of each kind if it is not known."""
     kinds = KINDS if file.kind == UNKNOWN else (file.kind,)
     return glances(kinds, desk.table_in(file), words, desk.folder.room())
@@ -58,7 +76,7 @@ def looks_at(desk: Desk, file: Dropped, words: Words) -> list[Glance]:
 def found(desk: Desk, file: Dropped, **written: str) -> tuple[Dropped, str]:
     """Returns a file with its kind, and the digest of its heading. Of several sheets it is one that another file has too,
     if none is chosen. Columns that are stated for other files are not looked for."""
-    words = replace(words_from(desk.tree), columns={}, **written)
+    words = replace(made_from(Reading, desk.tree), columns={}, **written)
     names = {*sheets_of(desk.path / file.place)}
     known = names & {one.sheet for one in desk.state.files}
     for sheet in [file.sheet] if file.sheet else sorted(known) or [""]:
@@ -72,11 +90,11 @@ def found(desk: Desk, file: Dropped, **written: str) -> tuple[Dropped, str]:
     return file, ""
 
 
-def settle(desk: Desk, file: Dropped, source: str, replaces: bool) -> None:
+def settle(desk: Desk, file: Dropped, source: str) -> None:
     """Keeps what a file is, and that files with its heading are of its kind."""
-    desk.set_file(file.name, file.kind, file.sheet, replaces)
-    if source:
-        with desk.changing() as state:
+    with desk.changing() as state:
+        desk.set_file(file.name, file.kind, file.sheet)
+        if source:
             state.sources[source] = file.kind
 
 
@@ -131,7 +149,7 @@ def shown(own: Front, file: Dropped, tree: Any) -> dict[str, Any]:
     """Returns what the page shows of a file."""
 
     def seen() -> tuple[Glance, list[str]]:
-        look = looks_at(own.desk, file, words_from(tree))[0]
+        look = looks_at(own.desk, file, made_from(Reading, tree))[0]
         return look, sheets_of(own.desk.path / file.place)
 
     look, sheets = own.once(f"look {file.name}", [file, tree], seen)
@@ -180,13 +198,11 @@ def drop() -> Redirect:
     given = [file for file in request.files.getlist("files") if file.filename]
     if not given:
         raise Refused("no file was chosen", "choose one or several")
-    # Of several files of a kind the first one replaces those that were there before.
-    beside = {UNKNOWN, *(KINDS if request.form.get("way") == "beside" else ())}
-    for one in given:
-        file = own.desk.add_file(one.filename or "", one.stream)
-        file, source = found(own.desk, file)
-        settle(own.desk, file, source, file.kind not in beside)
-        beside.add(file.kind)
+    with changing_files(own) as state:
+        way = state.next_file, request.form.get("way") == "beside"
+        for one in given:
+            file = own.desk.add_file(one.filename or "", one.stream, *way)
+            settle(own.desk, *found(own.desk, file))
     read_anew(own)
     return redirect("/files", 303)
 
@@ -202,12 +218,13 @@ def change(name: str) -> Redirect:
         raise Refused("there is no such kind or sheet", "choose from the lists")
     written = {word: form[word] for word in WRITTEN if form.get(word)}
     new, source = found(desk, replace(old, kind=kind, sheet=sheet), **written)
-    if new.kind != UNKNOWN:
-        look = Glance(new.kind)
-        if new == old:
-            (look,) = looks_at(desk, new, words_from(desk.tree))
-        desk.keep_words(chosen_words(desk.tree, look, form))
-    settle(desk, new, source, False)
+    with changing_files(own):
+        if new.kind != UNKNOWN:
+            look = Glance(new.kind)
+            if new == old:
+                (look,) = looks_at(desk, new, made_from(Reading, desk.tree))
+            desk.keep_words(chosen_words(desk.tree, look, form))
+        settle(desk, new, source)
     read_anew(own)
     return redirect(f"/files#file-{name}", 303)
 

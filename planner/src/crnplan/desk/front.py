@@ -78,12 +78,12 @@ class Front:
 
     def _end(self, work: Work) -> None:
         """Keeps how work has ended."""
-        with self.lock:
+        with self.lock, contextlib.ExitStack() as stack:
+            stack.callback(setattr, self, "work", None)
             with self.desk.changing() as state:
                 state.ended, state.said = work.ended, work.said
                 if work.ended == DONE and state.begun:
                     self._done(state, state.begun)
-            self.work = None
         if work.ended == DONE:
             self.prepare()
 

@@ -12,22 +12,19 @@ from werkzeug.wrappers import Response as Redirect
 
 from ..errors import CrnplanError, Refused, argument
 from ..formats import MOST_ITEMS, MOST_LEAD
-from ..plan.answer import CHOSEN, TODAY, Answer, Figures
+from ..plan.answer import Answer, Figures
 from ..plan.catalogue import PlannedFolder
-from ..plan.how import without_season
-from ..plan.question import Levels, rounded, terms_of
-from ..plan.what_ifs import what_if
+from ..plan.what_ifs import asked_figures
 from ..read.amounts import share_of
-from ..read.defaults import read_argument
 from ..read.item import Item
 from ..show.item_page import item_facts
 from ..show.page import rendered
+from ..vocabulary import read_argument
 from .front import Front, command_of, front, page, whole_of
 from .kept import Override
 from .results import listed
 
 pages = Blueprint("items", __name__)
-TYPED, BEST = "typed", "best"
 FIELDS = "s", "S", "lead", "fill"
 
 
@@ -71,25 +68,14 @@ def levels_asked() -> tuple[int, int] | None:
     return s, S
 
 
-def asked_figures(
+def form_figures(
     planned: PlannedFolder, item: Item, answer: Answer
 ) -> Mapping[str, Figures]:
-    """Returns what policies come to as the form asks: the chosen one, today's, the one that is typed, and the best one."""
+    """Returns what policies come to as the form asks. The best one promises nothing."""
     lead, text = whole_of("lead", 1, MOST_LEAD), request.args.get("fill", "").strip()
     share = float(read_argument("fill", text, share_of)) if text else None
     settings = replace(planned.settings, confidence=None)
-    terms = terms_of(without_season(item, settings)[0], answer.laws, settings)
-    boxes = dict[str, Levels]()
-    for name, levels in {
-        CHOSEN: answer.chosen.levels,
-        TODAY: item.levels,
-        TYPED: levels_asked(),
-    }.items():
-        in_boxes = rounded(levels, terms.item.box)
-        if in_boxes:
-            boxes[name] = in_boxes
-    figures = what_if(terms, [*boxes.values()], lead, share)
-    return dict(zip([*boxes, BEST], figures))
+    return asked_figures(item, answer, settings, levels_asked(), lead, share)
 
 
 def known_item(planned: PlannedFolder, own: Front, name: str) -> Answer | None:
@@ -111,7 +97,7 @@ def item() -> str:
         currency = planned.currency
         figures: Mapping[str, Figures] = {}
         if answer and any(asked.values()):
-            figures = asked_figures(planned, planned.item(name)[0], answer)
+            figures = form_figures(planned, planned.item(name)[0], answer)
     found = listed(own, path.name)
     rows = [row.cells for row in found.rows if row.values[0] == name]
     return page(

@@ -20,13 +20,12 @@ from typing import IO, Any
 
 from ..catalogues import Catalogue
 from ..errors import Refused
-from ..given import words_in
 from ..plan.settings import CONFIG, read_config
 from ..read.catalogue_reading import READ
 from ..read.cells import plain_name
 from ..read.opening import copy_of
 from ..read.sources import DELIMITERS
-from ..store.files import IN_KEPT, Folder, new_bytes
+from ..store.files import IN_KEPT, Folder, new_bytes, put_in_place
 
 DESK = "desk"  # the kind of the folder
 STATE = f"{IN_KEPT}desk.json"
@@ -37,6 +36,7 @@ UNKNOWN = "unknown"  # where files stand whose kind is not known
 PLANNED = "demand", "items", "orders", "out_of_stock", "laws"
 TODAY = "stock", "on_order"
 OVERRIDES, PLACED, QUANTITIES = "overrides.csv", "placed.csv", "quantities.csv"
+OF_MASTERS = "stock.csv"  # the stock of masters
 MOST_FILE = 2_000_000_000  # bytes of a file, unpacked
 MOST_NAME = 60  # letters of the name of a file in the desk
 SUFFIXES = ".csv", ".txt", ".tsv", ".gz", ".xlsx", ".xlsm"
@@ -45,13 +45,16 @@ SUFFIXES = ".csv", ".txt", ".tsv", ".gz", ".xlsx", ".xlsm"
 @dataclass(frozen=True)
 class Dropped:
     """A file that was dropped: its kind, its name in the desk, how its owner calls it, the sheet of a workbook, and when it
-    came."""
+    came. It replaces the files of its kind of earlier drops, unless it `is_beside` them. All files of a `drop` have its
+    number."""
 
     kind: str
     name: str
     called: str
     sheet: str = ""
     added: str = ""
+    drop: int = 0
+    is_beside: bool = False
 
     @property
     def place(self) -> str:
@@ -88,12 +91,16 @@ class Override:
 
 @dataclass(frozen=True)
 class Placed:
-    """An order that was placed: so many of an item, in the order of a supplier with a number, and when."""
+    """An order that was placed: so many of an item, in the order of a supplier with a number, and when. `had` are the quantities
+    of the item in the open orders that came before it. It `is_filed` once open orders had it that others have replaced.
+    """
 
     item: str
     quantity: int
     number: str
     added: str
+    had: str = ""
+    is_filed: bool = False
 
     @property
     def key(self) -> str:
@@ -115,14 +122,17 @@ class Begun:
 
 @dataclass
 class State:
-    """All that a desk keeps beside crnplan.toml. `sources` has the kind of a file by its heading. Whenever files or words
-    change, `changed` is one more; `read` and `planned` say at which of these all was read and planned. `begun` is the last
-    work, which goes on if it has not `ended`, and `said` what is to be said of its end. `quantities` are what the planner orders on a `day` in place of what the plan says, by item.
+    """All that a desk keeps beside crnplan.toml. `sources` has the kind of a file by its heading. `moves` has the new place of
+    each file that has to move once this is kept, or an empty one of a file to remove. Whenever files or words change,
+    `changed` is one more; `read` and `planned` say at which of these all was read and planned. `begun` is the last
+    work, which goes on if it has not `ended`, and `said` what is to be said of its end. `agreed` are the files of today that
+    count though the stock is older than the open orders. `quantities` are what the planner orders on a `day` in place of what the plan says, by item.
     """
 
     files: list[Dropped] = field(default_factory=list)
     sources: dict[str, str] = field(default_factory=dict)
     next_file: int = 1
+    moves: dict[str, str] = field(default_factory=dict)
     changed: int = 0
     read: int = -1
     planned: int = -1
@@ -131,6 +141,7 @@ class State:
     ended: str = ""
     said: list[str] = field(default_factory=list)
     overrides: dict[str, Override] = field(default_factory=dict)
+    agreed: str = ""
     day: str = ""
     quantities: dict[str, int] = field(default_factory=dict)
     placed: list[Placed] = field(default_factory=list)
@@ -158,8 +169,12 @@ class State:
             begun = state.begun or Begun("")
             places = [*state.plans, begun.out, begun.after, begun.test]
             places += [file.place for file in state.files]
-            if any(".." in Path(place).parts or place[:1] == "/" for place in places):
-                raise ValueError("a name leads out of the desk")
+            places += [*state.moves, *state.moves.values()]
+            top = path.parents[1].resolve()
+            for place in filter(None, places):
+                is_within = (top / place).parent.resolve().is_relative_to(top)
+                if ".." in Path(place).parts or not is_within:
+                    raise ValueError("a name leads out of the desk")
         except (AttributeError, KeyError, TypeError, ValueError) as fault:
             what = f"{path}: it is damaged ({fault})"
             raise Refused(what, "put a copy of it there, or name a new folder")
@@ -176,26 +191,53 @@ class Desk:
 
     def __init__(self, folder: Folder) -> None:
         self.folder, self.path = folder, folder.path
-        self.lock = threading.RLock()
+        self.lock, self.is_changing = threading.RLock(), False
         for name in (FILES, PLANS, TESTS, IN_KEPT.rstrip("/")):
             folder.inner(name)
         stored = self.path / STATE
         self.state = State.stored(stored) if stored.is_file() else State()
+        self._move()
         if not (self.path / CONFIG).is_file():
             self.keep_words({})
 
     @contextlib.contextmanager
     def changing(self) -> Iterator[State]:
-        """Gives the state to change, and keeps it at the end of the block. A block that raises keeps nothing."""
+        """Gives the state to change, and keeps it at the end of the outermost block. If a block raises, or if the state can't
+        be written, all is as before, here and in the folder."""
         with self.lock:
-            before = json.dumps(asdict(self.state))
+            if self.is_changing:
+                yield self.state
+                return
+            before, self.is_changing = json.dumps(asdict(self.state)), True
             try:
                 yield self.state
+                after = json.dumps(asdict(self.state), ensure_ascii=False, indent=1)
+                self.folder.write(STATE, after)
             except BaseException:
-                self.state = State.parse(before)
+                known, self.state = self.state.files, State.parse(before)
+                self._discard(known)
                 raise
-            after = json.dumps(asdict(self.state), ensure_ascii=False, indent=1)
-            self.folder.write(STATE, after)
+            finally:
+                self.is_changing = False
+            self._move()
+
+    def _discard(self, files: Iterable[Dropped]) -> None:
+        """Removes those of some files that are not kept, which have not moved yet."""
+        kept = {file.name for file in self.state.files}
+        for file in files:
+            if file.name not in kept:
+                place = replace(file, kind=UNKNOWN).place
+                (self.path / place).unlink(missing_ok=True)
+
+    def _move(self) -> None:
+        """Moves and removes files as the state says. What was not done when a desk ended is done when it is opened."""
+        for old, new in self.state.moves.items():
+            path = self.path / old
+            if not new:
+                path.unlink(missing_ok=True)
+            elif path.exists():
+                put_in_place(path, self.path / new)
+        self.state.moves = {}
 
     @property
     def config(self) -> Path:
@@ -207,11 +249,6 @@ class Desk:
         """Returns the table [catalogue] of crnplan.toml."""
         return read_config(self.config)
 
-    @property
-    def words(self) -> dict[str, Any]:
-        """Returns the words of crnplan.toml as arguments of calls."""
-        return words_in(self.tree)
-
     def keep_words(self, tree: Mapping[str, Any]) -> None:
         """Writes crnplan.toml, if it can be meant. Raises Refused and RefusedFaults, and then all is as before."""
         import tomlkit
@@ -220,13 +257,17 @@ class Desk:
         part = self.folder.room() / CONFIG
         part.write_text(text, "utf-8")
         read_config(part)
+        self.folder.claim(CONFIG)
         with self.changing() as state:
-            self.folder.take(part, CONFIG)
+            state.moves[str(part.relative_to(self.path))] = CONFIG
             state.changed += 1
 
-    def add_file(self, called: str, data: IO[bytes]) -> Dropped:
+    def add_file(
+        self, called: str, data: IO[bytes], drop: int = 0, is_beside: bool = False
+    ) -> Dropped:
         """Keeps a file that was dropped under a name of ours, which has the words of its own, a gzipped one unpacked. Its kind is
-        not known yet. Raises Refused for another ending, and for a file that can't be unpacked.
+        not known yet. Without the number of a `drop` it comes alone. Raises Refused for another ending, and for a file that
+        can't be unpacked.
         """
         suffix = Path(called).suffix.lower()
         if suffix not in SUFFIXES:
@@ -239,7 +280,8 @@ class Desk:
             words = plain_name(Path(called).stem).encode("ascii", "ignore").split()
             names = [f"{state.next_file:04}", *map(bytes.decode, words)]
             name = "-".join(filter(str.isalnum, names))[:MOST_NAME] + ending
-            file = Dropped(UNKNOWN, name, called, added=now())
+            drop = drop or state.next_file
+            file = Dropped(UNKNOWN, name, called, "", now(), drop, is_beside)
             self._room_of(file)
             with new_bytes(self.path / file.place, self.folder.room()) as copy:
                 copy_of(stream, copy, called, MOST_FILE)
@@ -259,20 +301,24 @@ class Desk:
                 return file
         raise Refused(f"{name}: there is no such file any longer")
 
-    def set_file(self, name: str, kind: str, sheet: str, replaces: bool) -> Dropped:
-        """Says of which kind a file is, and which sheet of it is meant, perhaps in place of all others of this kind."""
+    def set_file(self, name: str, kind: str, sheet: str) -> Dropped:
+        """Says of which kind a file is, and which sheet of it is meant. It replaces others of this kind as it was dropped."""
         with self.changing() as state:
             old = self.file(name)
             new = replace(old, kind=kind, sheet=sheet)
-            others = [file for file in self.files_of(kind) if file.name != name]
-            for file in others if replaces else ():
+            for file in () if kind == UNKNOWN else self.replaced_by(new):
                 self._drop(file)
             if old.kind != kind:
                 self._room_of(new)
-                (self.path / old.place).rename(self.path / new.place)
+                state.moves[old.place] = new.place
             state.files[state.files.index(old)] = new
             state.changed += 1
         return new
+
+    def replaced_by(self, new: Dropped) -> list[Dropped]:
+        """Returns the files that one replaces by its kind."""
+        files = () if new.is_beside else self.files_of(new.kind)
+        return [file for file in files if file.drop < new.drop]
 
     def remove_file(self, name: str) -> None:
         """Removes a file that was dropped."""
@@ -282,15 +328,15 @@ class Desk:
 
     def _drop(self, file: Dropped) -> None:
         self.state.files.remove(file)
-        (self.path / file.place).unlink(missing_ok=True)
+        self.state.moves[file.place] = ""
 
     def files_of(self, kind: str) -> list[Dropped]:
         """Returns the files of a kind, in the order in which they came."""
         return [file for file in self.state.files if file.kind == kind]
 
     def table_in(self, file: Dropped) -> str:
-        """Returns the table of a file as calls and commands name it."""
-        path = self.path / file.place
+        """Returns the table of a file as calls and commands name it, where it is now."""
+        path = self.path / self.file(file.name).place
         return f"{path}!{file.sheet}" if file.sheet else str(path)
 
     def table_of(self, kind: str) -> str | None:

@@ -15,18 +15,23 @@ from werkzeug.wrappers import Response as Redirect
 from ..errors import CrnplanError, Refused
 from ..read.observed import stated_day
 from ..read.quantities import quantity_of
-from ..read.told import words_from
-from ..show.today_tables import OrderDays, OrdersToday, rows_of
+from ..read.stock import ON_ORDER, STOCK
+from ..show.today_tables import OrdersToday, rows_of
 from ..store.digests import digest_of
 from .front import Front, command_of, front, page, whole_of
-from .kept import PLACED, QUANTITIES, TODAY, Desk, Placed, now
+from .kept import PLACED, QUANTITIES, TODAY, UNKNOWN, Placed, now
+from .today_files import DAY, TodayFiles, last_plan, today_files
 
 pages = Blueprint("orders", __name__)
-ORDERS, DAYS = "orders", "days"  # what the front keeps of them
+ORDERS = "orders"  # what the front keeps of them
 HEADING = "item", "quantity"
 BOOK = "today_orders.xlsx"
 MOST, MOST_LINES = 1_000_000, 200  # lines of all orders, and of a table of the page
 NOTHING: Mapping[str, str] = {}
+
+
+class OldStock(Refused):
+    """A stock that is older than the open orders, and of which nobody has said that it counts."""
 
 
 class Shown(NamedTuple):
@@ -59,30 +64,36 @@ def parts_of(lines: Sequence[object]) -> range:
     return range(0, len(lines), MOST_LINES)
 
 
-def coming(desk: Desk) -> list[Placed]:
-    """Returns what was placed and counts as on order: if no file of that was dropped later."""
-    files, placed = desk.files_of("on_order"), desk.state.placed
-    return [it for it in placed if all(it.added >= file.added for file in files)]
+def coming(own: Front) -> list[Placed]:
+    """Returns what was placed and counts as on order: if the open orders do not have it."""
+    placed = own.desk.state.placed
+    named = {*today_files(own).named(placed)}
+    return [it for it in placed if it not in named]
 
 
-def days_of(own: Front) -> OrderDays:
-    """Returns the last plan as it is asked for orders, which is read once."""
-    tree = own.desk.tree
+def check_stock(own: Front, files: TodayFiles) -> None:
+    """Raises OldStock if the stock is older than the open orders, and its planner has not said that it counts."""
+    if files.is_old and own.desk.state.agreed != names_of_files(own):
+        stock, orders = files.days[STOCK], files.days[ON_ORDER]
+        raise OldStock(
+            f"the stock is of {stock}, and the open orders are of {orders}: what came between them would be ordered again",
+            "drop the stock of that day on the page Files, or say on the page Today that this one counts",
+        )
 
-    def made() -> OrderDays:
-        own.known.pop(DAYS, None)  # Both would take much memory.
-        with own.reading("") as planned:
-            planned.check()
-            return OrderDays(planned, words_from(tree)).read()
 
-    return own.once(DAYS, (own.version(""), tree), made)
+def names_of_files(own: Front) -> str:
+    """Returns the names of the files of today."""
+    files = [*today_files(own).stock_files, *own.desk.files_of(ON_ORDER)]
+    return " ".join(file.name for file in files)
 
 
 def shown_on(own: Front, day: str) -> Shown:
     """Returns what the last plan says on a day. No orders are changed meanwhile."""
     desk = own.desk
     with own.orders:
-        state, placed = desk.state, [(it.item, it.quantity) for it in coming(desk)]
+        files = today_files(own)
+        check_stock(own, files)
+        state, placed = desk.state, [(it.item, it.quantity) for it in coming(own)]
         quantities = [*state.quantities.items()] if state.day == day else []
         sign = digest_of(own.version(""), day, state.changed, placed, quantities)
 
@@ -90,38 +101,64 @@ def shown_on(own: Front, day: str) -> Shown:
             own.known.pop(ORDERS, None)  # Its tables are written anew.
             with desk.lock:
                 tables = {
-                    **desk.tables(TODAY),
+                    **files.tables,
                     "placed": desk.table(PLACED, HEADING, placed),
                     "quantities": desk.table(QUANTITIES, HEADING, quantities),
                 }
-            return Shown(sign, tables, days_of(own).orders(tables, day))
+            return Shown(sign, tables, last_plan(own).days.orders(tables, day))
 
         return own.once(ORDERS, sign, made)
+
+
+def counting(own: Front) -> dict[str, Any]:
+    """Returns what the page shows of the files that count, and of the plan: of which day each is."""
+    with own.orders:
+        counts, last = today_files(own), last_plan(own)
+    files = {
+        STOCK: counts.stock_files,
+        ON_ORDER: own.desk.files_of(ON_ORDER),
+        UNKNOWN: own.desk.files_of(UNKNOWN),
+    }
+    plan = own.plan().path.name
+    return {"counts": counts, "last": last, "plan": plan, "files": files}
+
+
+def placed_on(own: Front) -> dict[str, Any]:
+    """Returns what the page shows of the orders that were placed: those that count first."""
+    counted, first = {*coming(own)}, first_of("placed")
+    placed = sorted(own.desk.state.placed, key=lambda order: order not in counted)
+    return {
+        "coming": counted,
+        "placed": placed[first : first + MOST_LINES],
+        "from_placed": first,
+        "parts_placed": parts_of(placed),
+    }
 
 
 @pages.get("/today")
 def today(refused: str = "", typed: Mapping[str, str] = NOTHING) -> str:
     """Returns the page, perhaps with why a form was refused, and with its quantities by item."""
-    desk, day = front().desk, asked_day()
-    counted, from_placed = {*coming(desk)}, first_of("placed")
-    placed = sorted(desk.state.placed, key=lambda order: order not in counted)
+    own, day = front(), asked_day()
+    desk = own.desk
     facts: dict[str, Any] = {
         "refused": refused,
         "typed": typed,
         "day": day,
-        "files": {kind: desk.files_of(kind) for kind in TODAY},
-        "coming": counted,
-        "placed": placed[from_placed : from_placed + MOST_LINES],
-        "from_placed": from_placed,
-        "parts_placed": parts_of(placed),
+        "files": {kind: desk.files_of(kind) for kind in (*TODAY, UNKNOWN)},
+        "masters": desk.files_of("items"),
+        "letters": DAY,
     }
     try:
-        sign, tables, orders = shown_on(front(), day)
+        facts |= counting(own)
+        sign, tables, orders = shown_on(own, day)
+        facts |= placed_on(own)
+    except OldStock:
+        return page("today.html", said=[], agrees=names_of_files(own), **facts)
     except CrnplanError as why:
         return page("today.html", said=str(why).splitlines(), **facts)
     number, first = request.values.get("supplier", ""), first_of("first")
     lines = orders.today.lines_of(number)
-    some, plan = lines[first : first + MOST_LINES], front().plan().path
+    some, plan = lines[first : first + MOST_LINES], own.plan().path
     rows = rows_of(orders, some).cells(is_shown=True)
     return page(
         "today.html",
@@ -185,7 +222,8 @@ def place(day: str) -> None:
         item, number = line.item.name, orders.today.number(line.item.supplier)
         if names and item not in names:
             continue
-        state.placed.append(Placed(item, line.placed, number, now()))
+        had = today_files(front()).had(item)
+        state.placed.append(Placed(item, line.placed, number, now(), had))
         state.quantities.pop(item, None)
         if line.placed < line.planned:
             state.quantities[item] = 0
@@ -193,11 +231,12 @@ def place(day: str) -> None:
 
 def end(day: str) -> None:
     """Ends orders that were placed: they were received, and what did not come stays, or are taken back and may be ordered
-    anew, or all those that a newer file of what is on order has."""
-    desk, form = front().desk, request.form
-    state, ended = desk.state, {*form.getlist("order")}
+    anew, or all those that the open orders have."""
+    form, state = request.form, front().desk.state
+    ended = {*form.getlist("order")}
     if form.get("way") == "filed":
-        state.placed = coming(desk)
+        settled = today_files(front()).settled(state.placed)
+        state.placed = [order for order in settled if not order.is_filed]
         return
     for order in [*state.placed]:
         if order.key not in ended:
@@ -216,6 +255,14 @@ def typed_in(form: MultiDict[str, str]) -> dict[str, str]:
     pairs = zip(form.getlist("item"), form.getlist("quantity"))
     ticked = form.getlist("ordered")
     return {it: text if it in ticked or "alone" in form else "0" for it, text in pairs}
+
+
+@pages.post("/today/agree")
+def agree() -> Redirect:
+    """Keeps that the files which the form names count, though the stock is older than the open orders."""
+    with front().desk.changing() as state:
+        state.agreed = request.form.get("agreed", "")
+    return redirect(url_for("orders.today", day=asked_day()), 303)
 
 
 WAYS = {"save": keep, "place": place, "end": end}

@@ -5,6 +5,7 @@ import contextlib
 import io
 import json
 import math
+import operator
 import tempfile
 from collections import Counter
 from collections.abc import Collection, Iterator, Mapping, Sequence
@@ -45,6 +46,7 @@ LIST = f"{IN_KEPT}result.json"  # what the page has of the last plan
 COLUMNS = {column.name: column for column in ITEM_COLUMNS}
 FIGURES = [column.name for column in ITEM_COLUMNS if not column.letters]
 FILTERS = "class", "verdict", "code", "supplier"
+SEARCHED = "item", "description"
 ASKED = "plan", "words", *FILTERS, "sort", "falls"
 
 
@@ -106,8 +108,7 @@ def made_list(planned: PlannedFolder) -> Listed:
             yield decision
 
     past = words_of(ENGLISH)["result"]["past"]  # as all words of the first screen
-    declared = {column.name: column for column in DECISION_COLUMNS}
-    table = planned.table([declared[name] for name in COLUMNS], noted())
+    table = planned.table(DECISION_COLUMNS, noted())
     table = replace(table, rows=[*table.rows], decimals=planned.currency.digits)
     table = table.without_empty(FIGURES)
     _, *spelt = table.spelt(is_shown=True)
@@ -182,13 +183,16 @@ def in_order(rows: Sequence[Row], place: int, falls: bool) -> list[Row]:
 def chosen_rows(found: Listed, asked: Mapping[str, str]) -> list[Row]:
     """Returns the rows that a query asks for, in its order. Raises Refused for a filter or a column that there is not."""
     words = asked["words"].casefold()
-    rows = [row for row in found.rows if words in "\n".join(row.cells[:2]).casefold()]
+    names = [column.name for column in found.columns]
+    searched = operator.itemgetter(*map(names.index, SEARCHED))
+    rows = [
+        row for row in found.rows if words in "\n".join(searched(row.cells)).casefold()
+    ]
     for name in FILTERS:
         value = asked[name]
         if value:
             check(name, value, found.choices[name])
             rows = [row for row in rows if value in row.traits[name]]
-    names = [column.name for column in found.columns]
     sort, falls = asked["sort"], asked["falls"]
     if not sort:
         sort, falls = ("saving", "1") if "saving" in names else (names[0], "")

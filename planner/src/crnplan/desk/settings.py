@@ -8,11 +8,12 @@ from flask import Blueprint, redirect, request
 from werkzeug.datastructures import MultiDict
 from werkzeug.wrappers import Response as Redirect
 
-from ..arguments import KINDS
 from ..errors import Refused
-from ..options import PLAN, Option, option
-from ..plan.how import Settings as PlanSettings
-from ..read.told import made_from, words_from
+from ..given import words_of
+from ..plan.how import Settings
+from ..read.items import Reading
+from ..read.told import made_from
+from ..vocabulary import FLAG, PAIRS, TEXTS, Word, plain
 from .files import read_anew, read_last, said_of
 from .front import Front, front, page
 from .kept import Desk
@@ -35,8 +36,8 @@ PARTS = {
     "orders": ("order_min", "s_min", "max_coverage", "supplier_min"),
     "rows": ("where", "net", "negate", "empty", "twice", "far"),
 }
-WORDS = {name: option(f"{PLAN}.{name}") for names in PARTS.values() for name in names}
-BY_NAME = "pairs", "shares"
+KNOWN = words_of(Reading, Settings)
+WORDS = {name: KNOWN[name] for names in PARTS.values() for name in names}
 # Of what the names of values by name are, and what is said of where values are from.
 NAMES = {"service": "category", "together": "category", "supplier_min": "supplier"}
 ROLES = {
@@ -47,28 +48,28 @@ ROLES = {
 MOST_NAMES = 100
 
 
+def in_fields(word: Word, value: Any) -> Any:
+    """Returns what crnplan.toml has of a word as its fields show it: by name, as several texts, or as it is."""
+    if word.kind.shape == PAIRS and not isinstance(value, Mapping):
+        is_of_all = isinstance(value, str) and "=" not in value
+        return {"": value} if is_of_all else plain(word.meant(value))
+    return word.meant(value) if word.kind.shape in (FLAG, TEXTS) else value
+
+
 def typed(form: MultiDict[str, str]) -> dict[str, Any]:
     """Returns what stands in the fields of a form that are not empty."""
     values = dict[str, Any]()
     for name, word in WORDS.items():
         texts = [text.strip() for text in form.getlist(name)]
         values[name] = "".join(texts)
-        if word.kind in BY_NAME:
+        if word.kind.shape == PAIRS:
             pairs = zip(form.getlist(f"{name} of"), texts)
             values[name] = {key.strip(): text for key, text in pairs if text}
-        if word.kind == "texts":
+        if word.kind.shape == TEXTS:
             values[name] = [*filter(None, map(str.strip, "".join(texts).splitlines()))]
+        if word.kind.shape == FLAG:
+            values[name] = bool(values[name])
     return {name: value for name, value in values.items() if value}
-
-
-def meant(word: Option, value: Any) -> Any:
-    """Returns what crnplan.toml has for what was typed. Raises Refused for what can't be meant."""
-    if word.kind == "flag":
-        return True
-    if word.kind == "whole" and value.isdecimal():
-        value = int(value)
-    read = KINDS[word.kind](word, value)
-    return read if word.kind == "percent" else value
 
 
 def faults_of(desk: Desk, values: Mapping[str, Any]) -> dict[str, str]:
@@ -77,14 +78,15 @@ def faults_of(desk: Desk, values: Mapping[str, Any]) -> dict[str, str]:
     tree = {key: value for key, value in desk.tree.items() if key not in keys}
     faults = dict[str, str]()
     for name, value in values.items():
+        tree[WORDS[name].key] = value
         try:
-            tree[WORDS[name].key] = meant(WORDS[name], value)
+            WORDS[name].meant(value)
         except Refused as why:
             faults[name] = str(why)
     try:
         if not faults:
-            words_from(tree)
-            made_from(PlanSettings, tree)
+            made_from(Reading, tree)
+            made_from(Settings, tree)
             desk.keep_words(tree)
     except Refused as why:
         faults[""] = str(why)
@@ -117,9 +119,11 @@ def form_page(own: Front, values: Mapping[str, Any], faults: Mapping[str, str]) 
 def settings() -> str:
     own = front()
     tree = own.desk.tree
-    values = {name: tree[word.key] for name, word in WORDS.items() if word.key in tree}
-    if isinstance(values.get("together", {}), str):
-        values["together"] = {"": values["together"]}
+    values = {
+        name: in_fields(word, tree[word.key])
+        for name, word in WORDS.items()
+        if word.key in tree
+    }
     return form_page(own, values, {})
 
 

@@ -15,12 +15,12 @@ import sys
 import threading
 import time
 import traceback
+from dataclasses import replace
 from pathlib import Path
 from typing import Any
 
 import crnplan as crn
 from ..errors import CrnplanError, spelt
-from ..given import PlanWords, ReadingWords
 from ..read.catalogue_reading import CATALOGUE
 from ..store.files import MARKER, own_folder
 from ..store.interrupts import heed_interrupt, heeding_interrupts
@@ -115,12 +115,10 @@ class Shown:
             )
 
 
-def read(asked: dict[str, Any], words: dict[str, Any]) -> None:
+def read(asked: dict[str, Any], reading: crn.Reading, settings: crn.Settings) -> None:
     """Reads the files of a desk, and keeps what was read."""
     from ..api import take_tables
-    from ..read.told import words_of
 
-    own = {name: words[name] for name in words if name in ReadingWords.__annotations__}
     tables = asked["tables"]
     read = crn.read_catalogue(
         tables["demand"],
@@ -128,17 +126,16 @@ def read(asked: dict[str, Any], words: dict[str, Any]) -> None:
         tables.get("orders"),
         out_of_stock=tables.get("out_of_stock"),
         laws=tables.get("laws"),
-        **own,
+        reading=reading,
     )
     with own_folder(Path(asked["out"]), CATALOGUE) as folder:
-        take_tables(folder, read, None, None, None, words_of({}), None)
+        take_tables(folder, read, None, None, None, reading, None)
 
 
-def plan(asked: dict[str, Any], words: dict[str, Any]) -> None:
+def plan(asked: dict[str, Any], reading: crn.Reading, settings: crn.Settings) -> None:
     """Plans the files of a desk into a folder, and computes what would change the answer."""
-    own = {name: words[name] for name in words if name in PlanWords.__annotations__}
     if not asked["after"]:
-        own.pop("least_gain", None)
+        settings = replace(settings, least_gain=None)
     tables = asked["tables"]
     crn.plan(
         tables["demand"],
@@ -146,20 +143,20 @@ def plan(asked: dict[str, Any], words: dict[str, Any]) -> None:
         tables.get("orders"),
         out_of_stock=tables.get("out_of_stock"),
         laws=tables.get("laws"),
+        reading=reading,
+        settings=settings,
         overrides=asked["overrides"],
         out=asked["out"],
         after=asked["after"] or None,
         as_backtest=asked["test"] or None,
         program=asked["program"],
         progress=True,
-        **own,
     )
     crn.report(asked["out"], program=asked["program"], progress=True)
 
 
-def test(asked: dict[str, Any], words: dict[str, Any]) -> None:
+def test(asked: dict[str, Any], reading: crn.Reading, settings: crn.Settings) -> None:
     """Tests plans on the past of the files of a desk, in a folder."""
-    reading, settings = crn.read_config(asked["config"])
     tables = asked["tables"]
     crn.backtest(
         tables["demand"],
@@ -191,9 +188,6 @@ def stop_with_desk(line: int) -> None:
 
 def main() -> None:
     """Does the work that the first line of standard input asks for, and says on standard output how it goes and ends."""
-    from ..given import words_in
-    from ..plan.settings import read_config
-
     # Who has started the desk may ignore interrupts, by which it stops this process.
     signal.signal(signal.SIGINT, signal.default_int_handler)
     with heeding_interrupts(), shown_by(Shown()), spelt(as_field):
@@ -203,7 +197,7 @@ def main() -> None:
             words = [sys.stdin.fileno()]
             threading.Thread(target=stop_with_desk, args=words, daemon=True).start()
             wait_for(Path(asked["out"]))
-            WORK[asked["kind"]](asked, words_in(read_config(asked["config"])))
+            WORK[asked["kind"]](asked, *crn.read_config(asked["config"]))
             told(ended=DONE, said=[])
         except KeyboardInterrupt:
             heed_interrupt()

@@ -14,15 +14,8 @@ from .bounds import COVERAGE, ORDER_COVERAGE, SHELF_LIFE, feasible_of
 from .choice import Choice, best_in
 from .question import Levels, Question
 
-# What stands in place of each bound if it is left out.
-LEFT_OUT = {
-    COVERAGE: None,
-    ORDER_COVERAGE: None,
-    SHELF_LIFE: None,
-    "order_min": None,
-    "s_min": None,
-    "pack": 1,
-}
+# The bounds of levels. A pack is none: the order is rounded up to whole packs.
+OF_LEVELS = COVERAGE, ORDER_COVERAGE, SHELF_LIFE, "order_min", "s_min"
 
 
 class Bound(NamedTuple):
@@ -45,8 +38,8 @@ def bounds_of(question: Question, choice: Choice) -> Iterator[Bound]:
         return
     is_stated = (question.item.bounds.s_min, question.settings.s_min) != (None, None)
     own, plain = theory.feasible, question.figures(choice.plain)
-    for name, value in LEFT_OUT.items():
-        other: dict[str, Any] = {name: value}
+    for name in OF_LEVELS:
+        other: dict[str, Any] = {name: None}
         bounds = replace(bounded, **other)
         feasible = feasible_of(bounds, question.item.box, question.demand)
         feasible = replace(

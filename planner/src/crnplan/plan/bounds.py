@@ -23,20 +23,18 @@ SHELF_LIFE = "shelf_life"
 def feasible_of(bounds: Bounds, box: int, demand: Law) -> Feasible:
     """Returns the policies within bounds, in boxes of so many items, as the demand of a period is.
 
-    S is never held below what the least s and the smallest order need, nor S - s below what a pack and that order need.
+    S is never held below what the least s and the smallest order need, nor S - s below what that order needs. A pack
+    bounds no level, since the order is rounded up to whole packs.
     """
     least_order = -(-(bounds.order_min or 0) // box)
     least_point = -(-(bounds.s_min or 0) // box)
-    pack = bounds.pack // math.gcd(bounds.pack, box)
-    feasible = Feasible(max(0, least_order - 1), least_point, multiple=pack)
+    feasible = Feasible(max(0, least_order - 1), least_point)
     if bounds.order_coverage is not None:
-        most = max(
-            math.floor(bounds.order_coverage * demand.mean), feasible.gap(pack - 1)
-        )
+        most = max(math.floor(bounds.order_coverage * demand.mean), feasible.least_gap)
         feasible = replace(feasible, most_gap=min(most, MOST_ITEMS))
     spans = [span for span in (bounds.coverage, bounds.shelf_life) if span is not None]
     if spans:
-        least = feasible.least + feasible.gap(0)
+        least = feasible.least_point + feasible.least_gap
         most = max(math.floor(min(spans) * demand.mean), least)
         feasible = replace(feasible, most_level=min(most, MOST_ITEMS))
     return feasible

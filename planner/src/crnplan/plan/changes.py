@@ -180,7 +180,7 @@ def since_of(old: Planned, now: Item, settings: Settings, stop: int) -> Since | 
         return None
     happened_to = {"counts": now.counts, "returns": now.returns}
     past = dataclasses.replace(item, **happened_to, unknown=(), cut=(), promoted=())
-    lead = fit_lead(item.leads, method=settings.lead_fit)
+    lead = fit_lead(item.leads)
     happened = Happened(past, lead, settings.seed_of("since", item.name), record)
     numbers = [now.first + place for place in places]
     later, before = numbers[record:], list[Levels]()

@@ -172,7 +172,7 @@ def run_of(question: Question, report: Report, sample: Sample) -> Run:
         costs.setup,
         costs.holding,
         costs.backlog,
-        rows[-1].total,
+        int(rows[-1].total),
         chosen.cost,
     )
     if question.levels is None:

@@ -93,10 +93,12 @@ def in_blocks(
     prior: Prior,
     planned: Callable[[Question], Sequence[Levels]],
     figure: Figure = unmet_of,
+    pack: int = 1,
 ) -> Floats:
     """Returns the sum of a figure, by default of unmet demand, under each policy of a plan, whose levels are in boxes,
     over all blocks of an item's record, of which each is planned from the others. The record comes twice, and its second
-    time counts, so that a stock and orders are there as in the long run. Raises Refused if the item can't be planned.
+    time counts, so that a stock and orders are there as in the long run. Orders are rounded up to packs of so many items:
+    to none where theory is tried, which does not round. Raises Refused if the item can't be planned.
     """
     periods = len(item.counts)
     if not any(item.counts):
@@ -109,7 +111,7 @@ def in_blocks(
         question = question_of(item.without(range(first, end)), settings, prior)
         box, random = question.item.box, np.random.default_rng(question.seed("trial"))
         leads = question.lead.draws(random, 2 * periods)
-        past = Past(2 * item.counts, 2 * returns, leads, item.review, periods)
+        past = Past(2 * item.counts, 2 * returns, leads, item.review, periods, pack)
         policies = [(s * box, S * box) for s, S in planned(question)]
         by_period = counted_by(policies, past, float(random.random()), figure)
         sums = sums + by_period[:, periods + first : periods + end].sum(axis=1)
@@ -220,10 +222,9 @@ def tried_on(
 def ways_of(settings: Settings) -> Settings:
     """Returns those of some settings by which items are tried."""
     return Settings(
-        settings.seed,
-        settings.fit,
-        settings.borrow,
-        lead_fit=settings.lead_fit,
+        seed=settings.seed,
+        fit=settings.fit,
+        borrow=settings.borrow,
         every=settings.every,
         window=settings.window,
         seasons=settings.seasons,

@@ -4,23 +4,36 @@ from __future__ import annotations
 import dataclasses
 import json
 from collections.abc import Mapping, Sequence
-from dataclasses import dataclass, field
+from dataclasses import dataclass
 from fractions import Fraction
 from typing import Any
 
-from ..demand import AUTO
+from ..demand import AUTO, SEASON_WAYS
+from ..demand.families import METHODS
 from ..demand.index import Index
 from ..demand.learning import Prior
 from ..errors import Refused, argument
-from ..formats import MOST_PERIODS
-from ..options import check_words, option
+from ..formats import MOST_ITEMS, MOST_PERIODS, MOST_REPLICATIONS, MOST_WEIGHT
+from ..money import whole_in
+from ..read.amounts import share_of
 from ..read.bounds import Bounds
+from ..read.defaults import SHARE, shares_of
 from ..read.item import BORROW, PLANNED, WEIGHED, Item
 from ..store.digests import number_of, sha256
+from ..vocabulary import (
+    PAIRS,
+    YES,
+    Kind,
+    Vocabulary,
+    choice,
+    documented,
+    numbers,
+    word,
+)
 from .aims import Aims, Overruns
 from .bounds import MOST_COVERAGE
 from .following import Following
-from .prices import REST, VALUE, Prices, weight_of
+from .prices import REST, VALUE, WEIGHTS, Prices, weight_of
 from .seasons import Seasons
 
 SEED_BITS = 32
@@ -36,59 +49,125 @@ VERSION = 11  # Answers of others are not used again.
 NONE, CLASS, ALL = BORROW
 
 
-@dataclass(frozen=True)
-class Settings:
-    """How items are planned. Raises Refused for what can't be meant.
+def part_of(value: Any) -> float:
+    """Returns a share as a float. Raises Refused."""
+    return float(share_of(value))
 
-    `borrow` says from whom an item learns its law if its master does not; with None the number of items decides that.
-    With a `confidence`, wanted fill rates are kept under that share of the laws that a history allows. A period is a
-    day, week or month (`every`), or has no dates; `cycle` is the number of periods of a season that is looked for.
-    Where a class or an item has a season of months, by its `seasons`, each month is planned by it, unless `season` is
-    "none". With `follow` "auto" items are planned at the level of their last periods, as far as the past of their class
-    says that what comes follows it, by the weights of `following`.
-    Laws are fitted, learned and checked on the last `window` periods of each history alone, or on all. The levels of an
-    earlier plan stay if a change gains less than the share `least_gain` of their cost. `correct` has wanted fill rates
-    corrected by the catalogue's past, by which items then have their `aims`, and costs of items with a backlog cost
-    promised by their `overruns` in it. `order_min`, `max_coverage` and `s_min`
-    are bounds of items whose masters state none: the smallest order, the most periods of demand that S covers (without
-    one S - s covers at most two years), and the smallest s (by default 1 if a share is wanted, so that no order waits
-    for a customer).
 
-    What is wanted `together` by class, or of all others under an empty name, items without a backlog cost or a wanted
-    share of periods meet all together, by the `prices` of what is not met at once: in place of a fill rate of each, but `at_least` that one. They
-    `weigh` by value, by units, or as items that are alike.
+def parts_of(value: Any) -> dict[str, float]:
+    """Returns shares by class as floats. Raises Refused."""
+    return {group: float(share) for group, share in shares_of(value).items()}
+
+
+def seed_of(value: Any) -> str:
+    """Returns the text of a seed, or of a whole number. Raises Refused."""
+    return value if isinstance(value, str) else str(whole_in(value))
+
+
+PART = Kind(part_of, SHARE.type, SHARE.metavar)
+
+
+@documented
+@dataclass(frozen=True, init=False, repr=False)
+class Settings(Vocabulary):
+    """Says how the items of a catalogue are planned, for several calls at once.
+
+    Examples
+    --------
+    >>> settings = crn.Settings(season="none", seed=7)
+    >>> plan = crn.plan(sales, masters, settings=settings, jobs=1)
     """
 
-    seed: str = "crnplan"
-    fit: str = "auto"
-    borrow: str | None = None
-    confidence: float | None = None
-    level: float = 0.95
-    periods: int = MOST_PERIODS
-    replications: int = 24
-    lead_fit: str = "auto"
-    every: str | None = None
-    season: str = AUTO
-    follow: str = NONE
-    cycle: int | None = None
-    window: int | None = None
-    least_gain: float | None = None
-    correct: bool = False
-    order_min: int | None = None
-    max_coverage: int | None = None
-    s_min: int | None = None
-    together: Mapping[str, float] = field(default_factory=dict)
-    weigh: str = VALUE
-    at_least: float | None = None
-    aims: Aims | None = field(default=None, repr=False)
-    overruns: Overruns | None = field(default=None, repr=False)
-    prices: Prices | None = field(default=None, repr=False)
-    seasons: Seasons | None = field(default=None, repr=False)
-    following: Following | None = field(default=None, repr=False)
+    # The words, and fields that the package sets: of the period and the season, and what is learned of a catalogue.
 
-    def __post_init__(self) -> None:
-        check_words(self)
-        option("settings.lead.fit").check(self.lead_fit)
+    seed: str = word(
+        Kind(seed_of, "str or int"), "crnplan", "The keys of all items follow from it."
+    )
+    fit: str = word(
+        choice(*METHODS, metavar="METHOD"),
+        METHODS[0],
+        "How laws of demand are fitted: see `fit_demand`.",
+    )
+    borrow: str | None = word(
+        choice(*BORROW),
+        help="From which items each learns its law of demand; by default all if there are 100. The masters may have a column "
+        "borrow.",
+    )
+    confidence: float | None = word(
+        PART,
+        help="Keep a wanted share under this share of the laws that the item's history allows.",
+    )
+    level: float = word(PART, 0.95, "The level of the intervals.")
+    periods: int = word(
+        numbers(1, MOST_PERIODS),
+        MOST_PERIODS,
+        "The periods of a replication of a run by crnsim.",
+    )
+    replications: int = word(
+        numbers(2, MOST_REPLICATIONS), 24, "The replications of a run by crnsim."
+    )
+    every: str | None = None
+    season: str = word(
+        choice(*SEASON_WAYS),
+        AUTO,
+        "Plan classes and items with a season month by month, where tests see one (auto), or all items as if there were "
+        "none.",
+    )
+    follow: str = word(
+        choice(*SEASON_WAYS),
+        NONE,
+        "Plan items at the level of their last periods, as far as the past of their class says that what comes follows it "
+        "(auto), or at that of their record (none).",
+    )
+    window: int | None = word(
+        numbers(1, MOST_WEIGHT),
+        help="Fit laws to the last N periods alone, and learn from these; by default to all.",
+    )
+    least_gain: float | None = word(
+        PART,
+        help="After an earlier plan, keep levels if a change gains less than this share of their cost, as 2%.",
+    )
+    correct: bool = word(
+        YES,
+        False,
+        "Aim at fill rates at which the catalogue's past has met the wanted ones, and promise costs of items with a backlog "
+        "cost by what such plans cost on it.",
+    )
+    order_min: int | None = word(
+        numbers(1, MOST_ITEMS),
+        help="The items of the smallest order, where the masters state none.",
+    )
+    max_coverage: int | None = word(
+        numbers(1, MOST_WEIGHT),
+        help="S covers at most N periods of mean demand; without it S less s covers at most two years.",
+    )
+    s_min: int | None = word(
+        numbers(0, MOST_ITEMS),
+        help="The smallest s; by default 1 for items with a wanted fill rate, else 0.",
+    )
+    together: Mapping[str, float] = word(
+        Kind(
+            parts_of, "share, dict, or texts as 'A=98%'", "SHARE | CLASS=SHARE", PAIRS
+        ),
+        {},
+        "The share of demand that items without a backlog cost or `no_shortage` meet at once all together, as 95%, or those "
+        "of a class, as A=98%: by one price for what is not met, in place of a fill rate of each.",
+    )
+    weigh: str = word(
+        choice(*WEIGHTS),
+        VALUE,
+        "With `together`, by what demand is weighed: its value, its units, or as items that are alike.",
+    )
+    at_least: float | None = word(
+        PART, help="With `together`, what each item meets at least, as 85%."
+    )
+    aims: Aims | None = None
+    overruns: Overruns | None = None
+    prices: Prices | None = None
+    seasons: Seasons | None = None
+    following: Following | None = None
+
+    def _check(self) -> None:
         self._check_together()
         if self.fit != "auto" and self.borrow not in (None, NONE):
             raise Refused(
@@ -120,35 +199,53 @@ class Settings:
 
     @property
     def planned_by(self) -> Sequence[str]:
-        """Returns the columns of items that their plans depend on."""
+        """Returns the columns of items that their plans depend on.
+
+        :meta private:
+        """
         return WEIGHED if self.together else PLANNED
 
     def named_group(self, item: Item) -> str | None:
         """Returns the group for which a share is wanted that would have an item, whether it has a weight or not: the one
-        of its class, or that of the rest; None if there is none."""
+        of its class, or that of the rest; None if there is none.
+
+        :meta private:
+        """
         if item.backlog is not None or item.no_shortage is not None:
             return None
         group = item.category if item.category in self.together else REST
         return group if group in self.together else None
 
     def group_of(self, item: Item) -> str | None:
-        """Returns the group with which an item is planned together; None if it is planned by itself."""
+        """Returns the group with which an item is planned together; None if it is planned by itself.
+
+        :meta private:
+        """
         return self.named_group(item) if self.weight_of(item) else None
 
     def weight_of(self, item: Item) -> float:
-        """Returns what a unit of an item weighs; 0 if that is not known."""
+        """Returns what a unit of an item weighs; 0 if that is not known.
+
+        :meta private:
+        """
         return weight_of(item, self.weigh)
 
     def common(self, program: str, prior: Prior) -> str:
         """Returns what all answers depend on, with the digest of the program and what was learned, as a text. The least
-        gain is left out: it only counts beside an earlier plan."""
+        gain is left out: it only counts beside an earlier plan.
+
+        :meta private:
+        """
         learned = sha256(prior.text)
         settings = dataclasses.asdict(self)
         del settings["least_gain"]
         return json.dumps([VERSION, program, learned, settings])
 
     def bounds_of(self, item: Item) -> Bounds:
-        """Returns the bounds of an item: those of its masters, else those of the settings."""
+        """Returns the bounds of an item: those of its masters, else those of the settings.
+
+        :meta private:
+        """
         own = item.bounds
         s_min, coverage, usual = own.s_min, own.coverage or None, None
         if s_min is None:
@@ -168,7 +265,10 @@ class Settings:
         )
 
     def seed_of(self, purpose: str, name: str) -> int:
-        """Returns the seed of random numbers for a purpose, which follows from an item's name and the seed."""
+        """Returns the seed of random numbers for a purpose, which follows from an item's name and the seed.
+
+        :meta private:
+        """
         return number_of(f"{self.seed}\n{purpose}\n{name}", SEED_BITS)
 
 

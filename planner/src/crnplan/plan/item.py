@@ -8,31 +8,18 @@ from dataclasses import replace
 from functools import cached_property
 from itertools import repeat
 from operator import attrgetter
-from pathlib import Path
-from typing import Any, NamedTuple
+from typing import NamedTuple
 
 from ..crnsim.periods import Period
-from ..crnsim.program import find_program
-from ..crnsim.report import report_of
+from ..crnsim.report import Report, report_of
 from ..crnsim.trajectory import trajectories
-from ..decide.doubt import WITHIN, Doubt
-from ..decide.verdicts import (
-    Compared,
-    Estimate,
-    ends_of,
-    t_quantile,
-    verdict_of,
-    with_intervals,
-)
+from ..decide.doubt import Doubt
+from ..decide.verdicts import Compared, Estimate, ends_of, t_quantile, verdict_of
 from ..demand.checks import largest_periods, largest_places
 from ..demand.fitted import FittedLaw
-from ..demand.posterior import AllowedLaws
 from ..errors import Refused
 from ..formats import MOST_ITEMS, POLICIES
 from ..law import Law
-from ..read import History, LeadTimes, read_history, read_lead_times
-from ..read.bounds import Bounds
-from ..read.item import Item
 from ..policies import Policy
 from ..scenario import Scenario
 from ..theory.lattice import NoTheory
@@ -44,14 +31,10 @@ from .answer import ALONE, CHOSEN, THEORY, TODAY, Answer, Figures
 from .checked_run import Sample
 from .choice import LAWS, allowed_by, choice_of
 from .one import plan_one
-from .how import NONE, Settings
 from .question import Levels, Question, question_of, terms_of
-from .settings import Tables, read_settings
 from .what_ifs import Moves, moves_of
 
 MOST_PERIODS = 104  # of a trajectory
-RULES = "delimiter", "encoding", "decimal", "item", "leave_out"
-OF_HISTORY = "demand", "returns", "date", "net", "whole", "empty"
 
 
 class Shown(NamedTuple):
@@ -82,18 +65,9 @@ class Without(NamedTuple):
     again: Figures
 
 
-class Coming(NamedTuple):
-    """The policies over coming periods from today's stock: the scenario, and rows in money of a period, whose intervals
-    hold together."""
-
-    scenario: Scenario
-    rows: list[Compared]
-
-
 class Depth:
     """What is computed of an item beside its answer, as it is asked for. `laws` is how many are drawn that its history
-    allows, `confidence` the share of them under which suggested policies keep a fill rate. Of an item that is planned by
-    its season all is of the first month, but for `whole`, the answer to the year.
+    allows. Of an item that is planned by its season all is of the first month, but for `whole`, the answer to the year.
     """
 
     def __init__(
@@ -102,7 +76,6 @@ class Depth:
         answer: Answer,
         program: str,
         laws: int = LAWS,
-        confidence: float | None = None,
         whole: Answer | None = None,
     ) -> None:
         if answer.run is None:
@@ -113,7 +86,7 @@ class Depth:
         self.question, self.answer, self.run = question, answer, answer.run
         self.whole = whole or answer
         self.program, self.laws = program, laws
-        self.confidence = confidence or question.settings.confidence or CONFIDENCE
+        self.confidence = question.settings.confidence or CONFIDENCE
 
     @cached_property
     def levels(self) -> dict[str, Levels]:
@@ -144,10 +117,11 @@ class Depth:
 
     @cached_property
     def single(self) -> FittedLaw | None:
-        """Returns the law of the item's own history alone, if another one was learned."""
+        """Returns the law of the item's own history alone, if another one was learned: with a season, that of the
+        month."""
         if not self.question.learned or self.question.is_new:
             return None
-        return self.question.alone().all_year
+        return self.question.alone().of_month
 
     @cached_property
     def allowed(self) -> tuple[tuple[Law, ...], tuple[Law, ...]]:
@@ -206,7 +180,7 @@ class Depth:
         return policies
 
     @cached_property
-    def sample(self) -> Sample:
+    def report(self) -> Report:
         """Runs all policies as the answer's run did. Raises Refused if a total is not that of the answer."""
         run = self.run
         report = report_of(self.scenario, self.program)
@@ -217,7 +191,7 @@ class Depth:
                 f"item {self.question.item.name!r}: {self.program} gives other totals than the plan has",
                 "plan it again with this program",
             )
-        return Sample(self.question, report)
+        return report
 
     @property
     def scenario(self) -> Scenario:
@@ -244,7 +218,7 @@ class Depth:
         settings, rows = self.question.settings, list[Shown]()
         base = self.answer.today or self.answer.chosen
         errors = t_quantile(1 - settings.level, settings.replications - 1)
-        runs = map(self._sampled, self.sample.policies)
+        runs = map(self._sampled, Sample(self.question, self.report).policies)
         for (policy, reasons), run in zip(self.policies.items(), runs):
             figures = self.question.figures((policy.s, policy.S))
             own_low, own_high = ends_of(run.cost, run.own_error, errors)
@@ -289,8 +263,7 @@ class Depth:
             figures = figures_of_laws(scenario, laws, policies, feasible, made)
         except NoTheory:
             return None
-        law = AllowedLaws({}, demands)
-        return Doubt(scenario, policies, WITHIN, law, None, figures)
+        return Doubt(policies, figures)
 
     @cached_property
     def without(self) -> Without | None:
@@ -338,112 +311,8 @@ class Depth:
         runs = trajectories(scenario, periods, program=self.program)
         return {policy.name: run for policy, run in zip(shown, runs)}
 
-    def coming(self, periods: int, replications: int) -> Coming:
-        """Returns the policies over so many coming periods from today's stock, in as many replications. The cost of an
-        item counts too. Raises Refused and ProgramError."""
-        question, unit = self.question, self.question.rates.get("unit", 0)
-        scenario = replace(
-            self.scenario,
-            periods=periods,
-            replications=replications,
-            initial=self._stock(),
-            costs=replace(self.scenario.costs, unit=unit),
-        )
-        report, coming = report_of(scenario, self.program), list[Compared]()
-        for row in with_intervals(report.rows, replications, question.settings.level):
-            low = None if row.low is None else question.money(row.low / periods)
-            high = None if row.high is None else question.money(row.high / periods)
-            cost, diff = question.money(row.cost), question.money(row.diff / periods)
-            coming.append(replace(row, cost=cost, diff=diff, low=low, high=high))
-        return Coming(scenario, coming)
-
 
 def depth_of(question: Question, answer: Answer, program: str) -> Depth:
     """Returns the deeper look at an item of a plan, by the answer that the plan has. Raises as `plan_one` does."""
     month = plan_one(question, program) if answer.calendar else answer
     return Depth(question, month, program, whole=answer)
-
-
-class Facts(NamedTuple):
-    """What is read of an item: its facts, its history and its lead times, with what is to be said of these files, and
-    the settings."""
-
-    item: Item
-    history: History
-    leads: LeadTimes | None
-    settings: Tables
-
-
-def leads_of(
-    lead: Mapping[str, Any], every: str | None, rules: Mapping[str, Any]
-) -> LeadTimes:
-    """Returns the lead times of a file. Raises RefusedFaults."""
-    return read_lead_times(
-        lead["path"],
-        lead=lead["column"],
-        every=every,
-        ordered=lead["ordered"],
-        received=lead["received"],
-        **rules,
-    )
-
-
-def read_item(history: str | Path, settings: str | Path) -> Facts:
-    """Reads the facts of an item. Its name, from which its key follows, is that of the settings, else the text that its
-    rows have, else the name of the file without its ending. Raises RefusedFaults with all faults of the settings or of
-    the history."""
-    path, tables = Path(history), read_settings(settings)
-    asked, lead, costs, today, run = (
-        tables[name] for name in ("history", "lead", "costs", "today", "run")
-    )
-    rules: dict[str, Any] = {name: asked[name] for name in RULES}
-    rules["date_formats"] = tuple(asked["date_formats"])
-    named: dict[str, Any] = {name: asked[name] for name in OF_HISTORY}
-    if asked["date"]:
-        named |= {"every": asked["every"], "start": asked["from"], "end": asked["to"]}
-    demand = read_history(path, **named, **rules)
-    leads = leads_of(lead, asked["every"], rules) if lead["path"] else None
-    returns = demand.returns.counts if demand.returns else ()
-    item = Item(
-        run["name"] or ", ".join(asked["item"].values()) or path.stem,
-        demand.counts,
-        leads.counts if leads else tuple(lead["times"]),
-        (today["s"], today["S"]),
-        costs["setup"],
-        costs["holding"],
-        costs["backlog"],
-        run["fill"],
-        costs["unit"],
-        returns if any(returns) else (),
-        bounds=Bounds(**tables["bounds"]),
-        stock=today["stock"],
-        unknown=demand.unknown,
-        no_shortage=run["no_shortage"],
-        first=demand.first,
-        rows=len(demand.counts),
-    )
-    return Facts(item, demand, leads, tables)
-
-
-def planned(facts: Facts, program: str | Path | None = None) -> Depth:
-    """Plans an item as its settings say, and returns it for a deeper look. The replications are those of the coming
-    periods, if there is a horizon. Raises Refused, Disagreement and ProgramError."""
-    path = str(find_program(program))
-    history, lead, run = (facts.settings[name] for name in ("history", "lead", "run"))
-    replications = Settings.replications
-    if run["replications"] and not run["horizon"]:
-        replications = run["replications"]
-    settings = Settings(
-        seed=run["seed"],
-        level=run["level"],
-        replications=replications,
-        fit=history["fit"],
-        lead_fit=lead["fit"],
-        borrow=NONE,
-        every=facts.history.every,
-        cycle=history["season"],
-        confidence=None if facts.item.wanted is None else run["confidence"],
-    )
-    question = question_of(facts.item, settings)
-    answer = plan_one(question, path)
-    return Depth(question, answer, path, run["laws"], run["confidence"])

@@ -153,7 +153,7 @@ def past_of(
         return ByPrice(question, prices).pairs
 
     item, on = flat_of(item, settings)
-    unmet = in_blocks(item, on, prior, planned)
+    unmet = in_blocks(item, on, prior, planned, pack=item.bounds.pack)
     weight = settings.weight_of(item) / len(item.counts)
     return Offer(weight * sum(item.counts), tuple((weight * unmet).tolist()))
 

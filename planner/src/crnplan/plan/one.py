@@ -190,7 +190,9 @@ def remarks_of_cut(question: Question) -> Iterator[Remark]:
     if not item.cut:
         return
     facts: dict[str, Value] = {"periods": len(item.cut), "used": len(expected)}
-    facts |= {"sales": sum(item.least), "expected": sum(expected)}
+    sold = sum(question.as_read.least)
+    asked = round(sum(expected) * sold / sum(item.least)) if expected else 0
+    facts |= {"sales": sold, "expected": asked}
     yield Remark("cut periods" if expected else "cut periods left out", facts)
 
 
@@ -230,8 +232,8 @@ def remarks_of_past(question: Question, allowed: Allowed | None) -> Iterator[Rem
         item.known.counts,
         settings.every,
         item.first,
-        settings.cycle,
         item.known_places,
+        question.as_read.known.counts if question.season else None,
     )
     if question.of_record.lower:
         yield question.of_record.lower

@@ -3,6 +3,7 @@ from __future__ import annotations
 
 import statistics
 from collections.abc import Iterator
+from dataclasses import replace
 
 import numpy as np
 
@@ -18,23 +19,24 @@ def remarks_of_packs(question: Question, levels: Levels) -> Iterator[Remark]:
     """Yields what it adds a period, in money, that orders are rounded up to packs: by a run of a policy beside one
     without, on the same draws. Says nothing if all orders come in whole packs by themselves.
     """
-    theory, rates = question.theory, question.rates
-    pack, returns = theory.feasible.multiple, question.returns or Law((0,), (1,))
-    if not np.gcd.reduce((*question.demand.values, *returns.values)) % pack:
+    pack, box, rates = question.bounds.pack, question.item.box, question.rates
+    returns = question.returns or Law((0,), (1,))
+    sizes = np.gcd.reduce((*question.demand.values, *returns.values))
+    if not box * int(sizes) % pack:
         return
     random = np.random.default_rng(question.seed("packs"))
-    laws = question.demand, returns, question.lead
-    demands, back, leads = (law.draws(random, PERIODS) for law in laws)
-    past = Past(demands, back, leads, question.item.review)
-    charged = Rates(rates["setup"], 0, rates["holding"], rates.get("backlog", 0))
-    start = max(0, round(theory.mean_position(*levels)))
+    demands, back = (
+        [box * size for size in law.draws(random, PERIODS)]
+        for law in (question.demand, returns)
+    )
+    leads = question.lead.draws(random, PERIODS)
+    exact = Past(demands, back, leads, question.item.review)
+    # Stock is counted in items and charged by the box, so a setup counts once for each item of a box.
+    charged = Rates(box * rates["setup"], 0, rates["holding"], rates.get("backlog", 0))
+    s, S = box * levels[0], box * levels[1]
     costs = list[float]()
-    for size in (1, pack):
-        periods = periods_of(past, [levels] * PERIODS, start, size)
-        costs.append(statistics.fmean(period.cost(charged) for period in periods))
-    facts = {
-        "pack": question.bounds.pack,
-        "periods": PERIODS,
-        "cost": question.money(costs[1] - costs[0]),
-    }
-    yield Remark("rounded orders", facts)
+    for past in (exact, replace(exact, pack=pack)):
+        periods = periods_of(past, [(s, S)] * PERIODS, S)
+        costs.append(statistics.fmean(period.cost(charged) for period in periods) / box)
+    cost = question.money(costs[1] - costs[0])
+    yield Remark("rounded orders", {"pack": pack, "periods": PERIODS, "cost": cost})

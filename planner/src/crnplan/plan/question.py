@@ -8,7 +8,7 @@ from fractions import Fraction
 from functools import cached_property
 
 from ..demand.cut_sales import expected_demands
-from ..demand.fitted import Borrowed, FittedLaw
+from ..demand.fitted import Borrowed, FittedLaw, seen_law
 from ..demand.fitting import fit_demand, fit_lead, stated_law
 from ..demand.borrowing import law_of
 from ..demand.learning import Prior
@@ -331,6 +331,17 @@ class Question(Terms):
         demand = season.law.like(season.of(season.law))
         return dataclasses.replace(self, demand=demand, season=season)
 
+    @property
+    def of_month(self) -> FittedLaw:
+        """Returns the law of what is sold: with a season, in the month itself."""
+        return self.season.in_month if self.season else self.demand
+
+    @property
+    def seen(self) -> Law:
+        """Returns the empirical law of what was sold, in boxes: with a season, in its month of each year."""
+        counts = self.season.sold if self.season else self.item.known.counts
+        return seen_law([-(-count // self.item.box) for count in counts])
+
     def month(self, stretch: Stretch, before: Levels | None = None) -> Question:
         """Returns the question of another month, which perhaps has the s and S of an earlier plan."""
         assert self.season is not None
@@ -381,8 +392,6 @@ def rates_of(item: Item) -> tuple[dict[str, int], Fraction, float]:
     costs = {"setup": item.setup, "holding": box * item.holding}
     if item.backlog is not None:
         costs["backlog"] = box * item.backlog
-    if item.unit:
-        costs["unit"] = box * item.unit
     rates, scale, error = rounded_costs(costs, "holding")
     if item.backlog is None:
         rates, scale = finest(rates, scale)
@@ -442,7 +451,7 @@ def question_of(
     returns = None
     if known.returns:
         returns = fit_demand(known.returns, method=settings.fit, box=box)
-    lead = fit_lead(item.leads, method=settings.lead_fit)
+    lead = fit_lead(item.leads)
     question = Question(
         item,
         settings,

@@ -52,6 +52,13 @@ def coming_year(every: str, first: int) -> list[Stretch]:
     return stretches
 
 
+def by_period(every: str, item: Item, index: Index) -> Floats:
+    """Returns an index by period of the record of an item."""
+    months = months_of(every, item.first, len(item.counts))
+    values: Floats = np.array(index.values)[months]
+    return values
+
+
 @dataclass(frozen=True)
 class InSeason:
     """How an item is planned by its season: the item as it was read, the index, whether that is its own, the law of
@@ -84,6 +91,28 @@ class InSeason:
     def at(self, stretch: Stretch) -> InSeason:
         """Returns the same for another month."""
         return replace(self, stretch=stretch)
+
+    @property
+    def by_period(self) -> Floats:
+        """Returns the index by period of the record."""
+        return by_period(self.every, self.item, self.index)
+
+    @property
+    def month(self) -> int:
+        """Returns the month of the year, 0 for January."""
+        return int(months_of(self.every, self.stretch.first, 1)[0])
+
+    @property
+    def in_month(self) -> FittedLaw:
+        """Returns the law of what is sold in the month itself."""
+        return self.law.like(self.law.times(self.index.values[self.month]))
+
+    @property
+    def sold(self) -> tuple[int, ...]:
+        """Returns the known demands of the record in the same month of each year."""
+        months = months_of(self.every, self.item.first, len(self.item.counts))
+        places = (it for it in self.item.known_places if months[it] == self.month)
+        return tuple(self.item.counts[place] for place in places)
 
     @property
     def remark(self) -> Remark:
@@ -167,19 +196,13 @@ class Seasons:
         index = self.seen_in(item)
         if index is None:
             return None
-        by_period = self.by_period(item, index)
-        most = float((np.array(item.counts) / by_period).max(initial=0))
+        index_by_period = by_period(self.every, item, index)
+        most = float((np.array(item.counts) / index_by_period).max(initial=0))
         return index if most * max(index.values) < MOST_DEMAND else None
 
     def is_beyond(self, item: Item) -> bool:
         """Returns whether an item has a season, but amounts that are too large for it."""
         return self.of_item(item) is None and self.seen_in(item) is not None
-
-    def by_period(self, item: Item, index: Index) -> Floats:
-        """Returns an index by period of the record of an item."""
-        months = months_of(self.every, item.first, len(item.counts))
-        values: Floats = np.array(index.values)[months]
-        return values
 
     def is_own(self, item: Item, index: Index) -> bool:
         """Returns whether the index of an item is not that of its class."""
@@ -188,7 +211,7 @@ class Seasons:
     def flat(self, item: Item, index: Index, seed: int) -> Item:
         """Returns an item with the counts that it would have had without its season, rounded at random."""
         random = np.random.default_rng(seed)
-        counts = flattened(item.counts, self.by_period(item, index), random)
+        counts = flattened(item.counts, by_period(self.every, item, index), random)
         return replace(item, counts=counts)
 
     def in_season(

@@ -18,7 +18,7 @@ import numpy as np
 
 from ..chances import Floats
 from ..compiled import load_compiler
-from ..decide.sensitivity import changed_demand
+from .changed_laws import changed_demand
 from ..store.digests import digest_of
 from ..errors import Refused
 from ..store.files import IN_KEPT, Folder

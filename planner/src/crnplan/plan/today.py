@@ -18,10 +18,10 @@ from ..errors import Refused, argument
 from ..read.controls import Controls
 from ..read.dates import first_day
 from ..read.item import ENDED, NO_DEMAND, Item, value_of
-from ..read.items import FileCounts, Reject, Words
+from ..read.items import FileCounts, Reject, Reading
 from ..read.observed import Day
 from ..read.opening import Table
-from ..read.quiet import is_dead, quiet_periods
+from ..read.quiet import QUIET, is_dead, quiet_periods
 from ..read.stock import NONE, QUANTITIES, TO_COME, Holdings, OnHand, read_holdings
 from ..remarks import Remark, Value
 from ..table import names_of
@@ -34,7 +34,13 @@ from .survey import Decided
 MOST_NAMED = 8  # items of a message
 OLD_DAYS = 56  # after its record, from which on the age of a plan is said
 # Remarks on an item that say why it is ordered no longer.
-WHY_ENDED = "asked for no longer", "stated status", "succeeded", "not to be ordered"
+WHY_ENDED = (
+    QUIET,
+    "stated status",
+    "succeeded",
+    "unknown successor",
+    "not to be ordered",
+)
 
 
 @dataclass(frozen=True)
@@ -395,7 +401,7 @@ class Days:
     """A planned folder as it is asked on days: by words, and with what it has of its items, which is read once. What an
     item stands at is kept until that changes."""
 
-    def __init__(self, folder: PlannedFolder, words: Words) -> None:
+    def __init__(self, folder: PlannedFolder, words: Reading) -> None:
         """Takes a folder that is open until `decided` is read."""
         self.folder, self.words, read = folder, words, folder.read
         self.prices = {name: price for name, price in read.values("name", "price")}
@@ -410,13 +416,15 @@ class Days:
         """Returns the items by all their periods, with their answers."""
         return [*self.folder.answers(is_whole=True)]
 
+    def holdings(self, tables: Mapping[str, Table | None]) -> Holdings:
+        """Reads tables of stock and of what is to come by kind: see `read_holdings`."""
+        return read_holdings(tables, self.words, self.prices, self.packs, self.tables)
+
     def today(self, tables: Mapping[str, Table | None], day: Day) -> Today:
         """Returns what the folder says on a day, with tables of stock and of what is to come by kind. Without a table of
         stock, that of the masters counts. Raises Refused if no stock is known, and as `read_holdings` does.
         """
-        holdings = read_holdings(
-            tables, self.words, self.prices, self.packs, self.tables
-        )
+        holdings = self.holdings(tables)
         found = _Sorted(holdings, day, self.folder.every, self.known)
         for item, answer in self.decided:
             found.add(item, answer)
@@ -436,7 +444,7 @@ class Days:
             standings=[*by_urgency(found.standings)],
             unknown=found.unknown,
             dead=found.dead,
-            minimums=minimums_of(found.items, self.words.defaults.supplier_min),
+            minimums=minimums_of(found.items, self.words.supplier_min),
             has_orders=any(tables.get(kind) is not None for kind in TO_COME),
             counts=holdings.counts,
             rejects=holdings.rejects,

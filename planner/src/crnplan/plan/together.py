@@ -315,7 +315,6 @@ def settled(settings: Settings, **words: Any) -> Settings:
         "periods": Settings.periods,
         "replications": Settings.replications,
         "least_gain": None,
-        "cycle": None,
         "overruns": None,
     }
     return dataclasses.replace(settings, **usual | words)

@@ -10,7 +10,6 @@ from fractions import Fraction
 from statistics import NormalDist
 from typing import TYPE_CHECKING
 
-from ..read.classes import xyz_of
 from ..read.item import ENDED, NO_DEMAND, UNORDERED, Item
 from ..remarks import Remark
 from .answer import (
@@ -77,7 +76,7 @@ class Totals:
 
     Counts of items: by verdict, those that are `compared`, those that are not planned (`faults`), those of them by a
     fault of ours (`broken`), with a confidence in their fill rate (`promised`), whose S, or S - s, may cover no more
-    periods (`covered`), by the wanted fill, if that is `corrected`, whose cost is promised by the past (`costed`), and by the `letters` A, B, C and X, Y, Z of their
+    periods (`covered`), by the wanted fill, if that is `corrected`, whose cost is promised by the past (`costed`), and by the `letters` A, B, C of their
     classes, and those with levels of the planner (`overridden`); of those that are compared, those with the run's figures (`by_run`), without an interval of the run, and
     with a price. `shared` has by group how many are planned together, `least` how many of these have the fill rate that
     each has at least, `fills` the least fill rate and the greatest one, and `half` how many meet less than half of what is
@@ -189,7 +188,7 @@ class Totals:
 
     def add(self, item: Item, answer: Answer) -> None:
         self.verdicts[answer.verdict] += 1
-        self.letters.update((item.abc, xyz_of(item.known.counts)))
+        self.letters.update((item.abc,))
         self.promised += answer.confidence_cost is not None
         self.covered += answer.coverage_cost is not None
         self.overridden += answer.override is not None

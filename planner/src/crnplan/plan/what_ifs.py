@@ -8,20 +8,26 @@ from collections.abc import Iterator, Mapping, Sequence
 from dataclasses import dataclass, field
 from fractions import Fraction
 
-from ..decide.sensitivity import law_cases
+import numpy as np
+
+from .changed_laws import law_cases
 from ..errors import Refused
 from ..law import Law
+from ..read.item import Item
 from ..remarks import Remark
 from ..policies import Levels
 from ..columns import columns_of
 from ..table import DataTable, Result
 from ..words import sentence
-from .answer import Figures
+from .answer import CHOSEN, TODAY, Answer, Figures
 from .choice import best_of
+from .how import Settings, without_season
 from .prices import VALUE
-from .question import Terms, rates_of
+from .question import Terms, rates_of, rounded, terms_of
+from .yearly import mean_of
 
 AS_IT_IS = "as it is"
+TYPED, BEST = "typed", "best"
 COSTS = "setup", "holding", "backlog"
 TIMES = {"halved": Fraction(1, 2), "doubled": Fraction(2)}
 LEADS_LONGER = "lead times one period longer"
@@ -128,8 +134,13 @@ def cases_of(terms: Terms, notes: list[Remark]) -> Iterator[Case]:
 
 
 def move_of(terms: Terms, case: Case, kept: Levels) -> Move:
-    """Returns the move of a case beside a policy in boxes. Raises Refused if there is no best policy."""
+    """Returns the move of a case beside a policy in boxes, which stays if nothing differs. Raises Refused if there is no
+    best policy."""
     (s, S), (best, own) = figures_in(case.of(terms), [kept])
+    if (
+        case.words == AS_IT_IS
+    ):  # The plan may have chosen otherwise, as for a confidence.
+        (s, S), best = kept, own
     more = own.cost / best.cost - 1 if best.cost else math.nan
     box = terms.item.box
     return Move(
@@ -170,3 +181,39 @@ def what_if(
     asked = dataclasses.replace(terms, settings=settings)
     _, (best, *others) = figures_in(case.of(asked), policies)
     return [*others, best]
+
+
+def asked_figures(
+    item: Item,
+    answer: Answer,
+    settings: Settings,
+    typed: Levels | None,
+    lead: int | None,
+    share: float | None,
+) -> dict[str, Figures]:
+    """Returns what the chosen policy of an item, today's, a typed one and the best one come to: see `what_if`. If neither
+    lead time nor share differs, the plan's is the best. Of an item with a season all are means over the coming year, by
+    the law and the chosen levels of each month. Raises Refused if there is no best policy.
+    """
+    plain, _ = without_season(item, settings)
+    spans = [(month.first, month.end) for month in answer.months] or [(0, 1)]
+    rows, means = list[dict[str, Figures]](), list[float]()
+    for first, _ in spans:
+        terms = terms_of(plain, answer.laws_in(first), settings)
+        chosen = answer.chosen_in(first).levels
+        boxes = dict[str, Levels]()
+        for name, levels in {CHOSEN: chosen, TODAY: item.levels, TYPED: typed}.items():
+            in_boxes = rounded(levels, plain.box)
+            if in_boxes:
+                boxes[name] = in_boxes
+        if lead is None and share is None:
+            figures = [*map(terms.figures, (*boxes.values(), boxes[CHOSEN]))]
+        else:
+            figures = what_if(terms, [*boxes.values()], lead, share)
+        rows.append(dict(zip([*boxes, BEST], figures)))
+        means.append(float(terms.demand.mean))
+    periods = np.array([end - first for first, end in spans], float)
+    return {
+        name: mean_of([row[name] for row in rows], periods, periods * means)
+        for name in rows[0]
+    }

@@ -10,6 +10,7 @@ from typing import NamedTuple
 
 import numpy as np
 
+from ..chances import Floats
 from ..read.item import NEW
 from .answer import BOUNDED, RUN, SAME, THEORY, UNCOMPARED, Answer, Figures, Month, Run
 from .choice import CLOSE
@@ -39,6 +40,17 @@ class Planned(NamedTuple):
         return Month(*season.stretch, *self.answer.chosen.levels, season.factor)
 
 
+def mean_of(figures: Sequence[Figures], periods: Floats, asked: Floats) -> Figures:
+    """Returns the mean of the figures of some months, with the levels of the first: of the share that is met at once by
+    what is asked for in each month, else by its periods."""
+    means = dict[str, float]()
+    for part in ("cost", "short", "stock", "orders", "fill"):
+        weights = asked if part == "fill" else periods
+        values = [getattr(one, part) for one in figures]
+        means[part] = float(weights @ values / weights.sum())
+    return dataclasses.replace(figures[0], **means)
+
+
 class Year:
     """The months of a year, and means over them."""
 
@@ -57,20 +69,14 @@ class Year:
         return float(self.periods @ known / self.periods.sum())
 
     def mean_figures(self, name: str, other: str = "chosen") -> Figures | None:
-        """Returns the mean of the figures of a policy, with the levels of the first month: of the share that is met at
-        once by demand, else by periods. None without the policy in the first month; in others another one takes its
-        place."""
+        """Returns the mean of the figures of a policy: see `mean_of`. None without the policy in the first month; in
+        others another one takes its place."""
         if getattr(self.answers[0], name) is None:
             return None
         figures = list[Figures]()
         for answer in self.answers:
             figures.append(getattr(answer, name) or getattr(answer, other))
-        means = dict[str, float]()
-        for part in ("cost", "short", "stock", "orders", "fill"):
-            weights = self.asked if part == "fill" else self.periods
-            values = [getattr(one, part) for one in figures]
-            means[part] = float(weights @ values / weights.sum())
-        return dataclasses.replace(figures[0], **means)
+        return mean_of(figures, self.periods, self.asked)
 
     @property
     def run(self) -> Run | None:

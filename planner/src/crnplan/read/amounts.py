@@ -60,10 +60,7 @@ KINDS = {
     "items": ("no amount", "no whole items"),
     "whole": ("no quantity", "not whole"),
     "sales": ("no quantity", "not whole", "negative sale"),
-    "period": ("no quantity", "not whole", "negative period"),
-    "movement": ("no quantity", "not whole", "negative movement"),
     "returns": ("", "not whole", "negative"),
-    "lead": ("no lead", "not whole", "below 1"),
     "owed": ("", "below 0"),
     "on order": ("no amount", "below 0"),
     "share": ("no amount", "no share"),
@@ -92,9 +89,15 @@ AMOUNTS: dict[str, dict[str, str]] = {
         "override_S": "items",
     },
     "orders": {},
-    "stock": {"stock": "number", "owed": "owed"},
-    "on_order": {"quantity": "on order"},
-    "placed": {"quantity": "on order"},
+    "stock": {"stock": "number", "owed": "owed", "factor": "cost"},
+    "on_order": {
+        "quantity": "on order",
+        "ordered": "on order",
+        "received": "owed",
+        "cancelled": "owed",
+        "factor": "cost",
+    },
+    "placed": {"quantity": "on order", "factor": "cost"},
     "quantities": {"quantity": "number"},
     "overrides": {"s": "items", "S": "items"},
     "out_of_stock": {},
@@ -162,22 +165,6 @@ def amounts_of(text: str) -> Mapping[str, Amount]:
     return amounts
 
 
-def other_reading(text: str, decimal: str) -> str | None:
-    """Returns what a readable number would be if its sign between thousands were a decimal sign, or the other way
-    round: `1.000,000`, which is 1000 with the comma as decimal sign, is 1 if the point is one. None if there is no such
-    sign."""
-    shell = SHELL.fullmatch(text)
-    form = shell and FORMS[decimal].fullmatch(shell["digits"])
-    if not form:
-        return None
-    whole, _, part = form["whole"].partition(DECIMALS[decimal == "."])
-    if len(part) == 3:
-        return f"{whole}.{part}".rstrip("0").rstrip(".")
-    decimals = form["part"] or ""
-    could_be_group = re.fullmatch("[1-9][0-9]{0,2}", form["whole"])
-    return form["whole"] + decimals if len(decimals) == 3 and could_be_group else None
-
-
 Reading = TypeVar("Reading", bound=Hashable)
 
 
@@ -190,7 +177,6 @@ class ColumnReader(ABC, Generic[Reading]):
     def __init__(self, stated: str | None = None) -> None:
         self.stated = stated
         self.sides = dict[str, str]()
-        self.is_doubtful = False  # whether a text may be two numbers
 
     @abstractmethod
     def readings(self, text: str) -> Mapping[str, Collection[Reading]]:
@@ -213,7 +199,6 @@ class ColumnReader(ABC, Generic[Reading]):
                 signs = [*filter(by_sign.get, by_sign)]
                 if len(signs) == 1:
                     self.sides.setdefault(signs[0], text)
-                self.is_doubtful |= len(joined(by_sign)) > 1
         return self
 
     def see(self, text: str, by_sign: Mapping[str, Collection[Reading]]) -> None:
@@ -280,6 +265,11 @@ class AmountReader(ColumnReader[Amount]):
     def readings(self, text: str) -> Mapping[str, Collection[Amount]]:
         found = amounts_of(text)
         return {sign: [*filter(None, [found.get(sign)])] for sign in DECIMALS}
+
+    def stored(self, cell: Shown) -> Collection[Amount]:
+        """Returns the reading of a number of a workbook; none if its format shows another sign than it has."""
+        number = Fraction(cell.digits)
+        return [it for it in super().stored(cell) if it.number == number]
 
     def named(self, reading: Amount) -> tuple[Fraction, str]:
         return abs(reading.number), reading.text
@@ -356,8 +346,6 @@ def meets(number: Fraction, code: str) -> bool:
             return number != 0
         case "no share":
             return 0 < number < 1
-        case "below 1":
-            return number >= 1
     return number.numerator >= 0
 
 

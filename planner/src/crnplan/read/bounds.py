@@ -9,7 +9,7 @@ from fractions import Fraction
 class Bounds:
     """What a buyer can order and keep of an item; None where nothing is stated.
 
-    Orders come in multiples of `pack` items, and have at least `order_min` items. s is at least `s_min` items. S is at
+    Orders are rounded up to packs of `pack` items, and have at least `order_min` items. s is at least `s_min` items. S is at
     most the mean demand of `coverage` periods, and of `shelf_life` periods, in which items must be used. S - s is at
     most the mean demand of `order_coverage` periods, which no master states: it holds where no coverage is stated.
     """

@@ -17,7 +17,7 @@ from ..store.digests import digest_of
 from ..errors import Fault, Refused, RefusedFaults
 from ..store.files import IN_KEPT, Folder, faults_of, own_folder
 from ..store.means import Means
-from ..money import Currency
+from ..money import MOST_DECIMALS, Currency
 from ..remarks import Remark, Value
 from ..store.stored import Cell, check_whole, quoted, reading
 from ..words import message
@@ -29,7 +29,7 @@ from .defaults import CLASS, DEFAULT, ORDERS, SOURCES, distinct
 from .filed import FiledTable, Whole, read_tables
 from .found import found_of
 from .item import NEW, NO_DEMAND, PHASE_OUT, PLANNED, STOPPED, Item
-from .items import Counts, FileCounts, Reject, Words
+from .items import Counts, FileCounts, Reject, Reading
 from .opening import Table
 from .parts import (
     ADD_ITEM,
@@ -221,15 +221,15 @@ class Writer:
         rows = self.base.execute(f"SELECT * FROM items WHERE {where}", values)
         return map(ITEM.value, rows)
 
-    def succeed(self, words: Words) -> None:
+    def succeed(self, words: Reading) -> None:
         """Gives items that succeed others the demand of these. Raises Refused."""
-        heirs = self._items("predecessor != ''")
-        predecessors = {item.name: item.predecessor for item in heirs}
+        naming = self._items("predecessor != '' OR successor != ''")
+        pairs = [(it.predecessor or it.name, it.successor or it.name) for it in naming]
 
         def find(name: str) -> Item | None:
             return next(self._items("name = ?", name), None)
 
-        changed = succeeded(predecessors, find, words)
+        changed = succeeded(pairs, find, words)
         self.add_rows(REPLACE_ITEM, map(ITEM.cells, changed.values()))
 
     def pasts(self) -> dict[str, int]:
@@ -281,7 +281,7 @@ def missing_of(counts: Counts, answered: int) -> list[str]:
 def read_alone(
     path: Path,
     tables: Mapping[str, Table | None],
-    words: Words,
+    words: Reading,
     jobs: int | None = 1,
     sizes: Sizes = Sizes(),
 ) -> Path:
@@ -293,7 +293,7 @@ def read_alone(
 def read_into(
     folder: Folder,
     tables: Mapping[str, Table | None],
-    words: Words,
+    words: Reading,
     jobs: int | None = 1,
     sizes: Sizes = Sizes(),
 ) -> Path:
@@ -332,7 +332,7 @@ def facts_of(
     tables: Mapping[str, FiledTable],
     whole: Whole,
     parts: Sequence[PartRead],
-    words: Words,
+    words: Reading,
 ) -> dict[str, Any]:
     """Returns what is kept of a catalogue beside its items, but for what its rows come to and what is said."""
     currency = next(iter(distinct(whole.currencies)), "")
@@ -343,7 +343,7 @@ def facts_of(
             Currency(currency, 0).places, *(part.decimals for part in parts)
         ),
         "currency": currency,
-        "abc": words.defaults.abc,
+        "abc": words.abc,
         "sources": sources_by_role(parts),
         "periods": [periods.start, periods.stop],
         "found": found_of(tables, whole, words),
@@ -417,7 +417,7 @@ def remarks_of(
     tables: Mapping[str, FiledTable], parts: Sequence[PartRead]
 ) -> Iterator[Remark]:
     """Yields what is to be said of the rows of tables: over which places items are summed, states of rows, items that
-    differ by zeros alone, and unknown and promoted periods."""
+    differ by zeros alone, unknown and promoted periods, and rows that are in no sum."""
     for kind, table in tables.items():
         places = Counter[str]()
         for part in parts:
@@ -429,6 +429,12 @@ def remarks_of(
         cut = {"cut": items["cut"], "cut_periods": items["cut_periods"]}
         facts = {"items": items["unknown"], "periods": items["unknown_periods"]}
         yield Remark("items with unknown periods", {**facts, **cut})
+    if items["rounded"]:
+        facts = {"cells": items["rounded"], "decimals": MOST_DECIMALS}
+        yield Remark("amounts rounded", facts)
+    if items["unread_rows"] or items["undated_rows"]:
+        names = ("unread_rows", "undated_rows", "undated_items")
+        yield Remark("rows not summed", {name: items[name] for name in names})
     if items["stated"]:
         facts = {"items": items["stated"], "bare": items["bare"]}
         yield Remark("items with stated laws", facts)

@@ -5,20 +5,36 @@ from __future__ import annotations
 import re
 from collections import Counter
 from collections.abc import Iterable, Iterator, Mapping, Sequence
-from typing import TYPE_CHECKING, NamedTuple
+from typing import TYPE_CHECKING, Any, NamedTuple
 
 import numpy as np
 
-from ..errors import Fault, Refused, argument
+from ..errors import Fault, Refused
 from ..remarks import Remark, Value
+from ..vocabulary import read_text, several
+from .asked import (
+    BARE,
+    CLOSED,
+    COUNT,
+    MARK,
+    OPEN,
+    ORDERED,
+    RECEIVED,
+    ROLES_OF,
+    asked_of_order,
+    asked_of_stock,
+    is_base,
+    part_of,
+)
 from .cells import HEADINGS, Cell, Numbers, on_one_line, plain_name, some_of
-from .columns import ROLES, listed
+from .columns import ROLES, listed, usual_names
 from .sources import Column, Mark, Sheet
 
 if TYPE_CHECKING:
-    from .items import Words
+    from .items import Reading
     from .rows import Rows, Table
 
+ANY = "*"  # that each value of a column is taken
 PLACE, STATE = "place", "state"  # what a watched column says of a row
 WATCHED = {name: use for use in (PLACE, STATE) for name in HEADINGS["watched"][use]}
 # Words that a name may end with, as in `Location Code`.
@@ -27,7 +43,6 @@ ENDINGS = {*HEADINGS["watched"]["endings"]}
 STATE_KINDS = {"demand", "orders", "stock", "on_order", "placed"}
 MOST_VALUES = 6  # that are named
 CONDITION = re.compile(rf"(?:({'|'.join(ROLES)})\.)?([^=]*[^=\s][^=]*)=(.*)")
-Where = str | Sequence[str] | Mapping[str, object]
 
 
 class Condition(NamedTuple):
@@ -43,21 +58,17 @@ class Condition(NamedTuple):
         parts = CONDITION.fullmatch(text)
         if parts is None:
             raise Refused(
-                f"{argument('where')}: {text!r} is not COLUMN=VALUE or FILE.COLUMN=VALUE",
+                f"{text!r} is not COLUMN=VALUE or FILE.COLUMN=VALUE",
                 f"write Location=Main, or demand.Location=Main; the files are {', '.join(ROLES)}",
             )
         return cls(parts[1] or "", parts[2].strip(), parts[3].strip())
 
 
-def conditions_of(where: Where | None) -> tuple[str, ...]:
-    """Returns conditions as texts: of several, or of a table as {"Location": "Main"}, whose values may be lists, and
-    which may be by file, as {"demand": {"Location": "Main"}}."""
-    if where is None:
-        return ()
-    if not isinstance(where, Mapping):
-        return tuple(where)
+def conditions_of(table: Mapping[str, object]) -> tuple[str, ...]:
+    """Returns the conditions of a table as texts: as {"Location": "Main"}, whose values may be lists, and which may be by
+    file, as {"demand": {"Location": "Main"}}."""
     texts = list[str]()
-    for name, value in where.items():
+    for name, value in table.items():
         if isinstance(value, Mapping):
             texts += [f"{name}.{text}" for text in conditions_of(value)]
         elif isinstance(value, (list, tuple)):
@@ -65,6 +76,15 @@ def conditions_of(where: Where | None) -> tuple[str, ...]:
         else:
             texts.append(f"{name}={value}")
     return tuple(texts)
+
+
+def conditions_in(value: Any) -> tuple[str, ...]:
+    """Returns conditions on rows, of texts or a table. Raises Refused for one that can't be meant."""
+    stated = conditions_of(value) if isinstance(value, Mapping) else value
+    texts: tuple[str, ...] = several(read_text)(stated)
+    for text in texts:
+        Condition.of(text)
+    return texts
 
 
 def wanted_of(kind: str, where: Iterable[str]) -> dict[str, set[str]]:
@@ -84,22 +104,71 @@ def use_of(name: str) -> str:
     return WATCHED.get(" ".join(words), "")
 
 
-def marks_of(kind: str, sheet: Sheet, where: Iterable[str]) -> dict[str, Mark]:
-    """Returns the columns of a table that choose its rows or are watched, by what `Rows` calls them. One with a role is
-    not watched."""
-    wanted = wanted_of(kind, where)
+def marks_of(kind: str, sheet: Sheet, words: Reading) -> dict[str, Mark]:
+    """Returns the columns of a table that choose its rows, are watched or asked about, by what `Rows` calls them. Of those
+    with a role only that of closed lines is one."""
+    wanted = wanted_of(kind, words.where)
     uses = {PLACE, STATE} if kind in STATE_KINDS else {PLACE}
+    asked = asked_in(kind, sheet, words.columns.get(kind, {}))
+    closed, filed = sheet.columns.get(CLOSED), filed_in(kind, sheet)
     marks: dict[str, Mark] = {}
     for place, name in enumerate(sheet.heading):
-        use = use_of(name)
+        use = asked.get(name) or use_of(name)
         if name in wanted:
-            marks[f"={name}"] = Mark(Column(name, place), "", frozenset(wanted[name]))
-        elif use in uses and place not in sheet.used:
+            values = frozenset(wanted[name])
+            values = frozenset() if ANY in values else values
+            marks[f"={name}"] = Mark(Column(name, place), "", values)
+        elif closed and closed.place == place:
+            marks[f"={name}"] = Mark(closed, CLOSED)
+        elif place == filed and name not in asked:
+            marks[f"={name}"] = Mark(Column(name, place), ORDERED)
+        elif use in (uses | {*asked.values()}) and place not in sheet.used:
             marks[f"={name}"] = Mark(Column(name, place), use)
     return marks
 
 
-def faults_of_where(sheets: Mapping[str, Sheet], words: Words) -> Iterator[Fault]:
+def filed_in(kind: str, sheet: Sheet) -> int | None:
+    """Returns the place of the only column of open orders that says how many were ordered, beside that of what is still to
+    come."""
+    column = sheet.columns.get("quantity")
+    if kind != "on_order" or column is None:
+        return None
+    places = list[int]()
+    for place, name in enumerate(sheet.heading):
+        is_alike = is_base(name) == is_base(column.name) and place not in sheet.used
+        if is_alike and part_of(name) in (BARE, ORDERED):
+            places.append(place)
+    return places[0] if len(places) == 1 else None
+
+
+def asked_in(kind: str, sheet: Sheet, stated: Mapping[str, str]) -> dict[str, str]:
+    """Returns what is asked of the columns of open orders and of stock, by name. A number is not asked about if it may have
+    a role that is stated, or of which a column in base units is there."""
+    columns = sheet.columns
+    asked = dict[str, str]()
+    if kind not in ("on_order", "stock"):
+        return asked
+    known = {role for role in columns if is_base(columns[role].name)} | stated.keys()
+    open_quantity = columns.get("quantity")
+    is_open = open_quantity and (
+        "quantity" in stated or part_of(open_quantity.name) not in (BARE, ORDERED)
+    )
+    parts = {RECEIVED} & columns.keys() | ({OPEN} if is_open else set())
+    for name in sheet.heading:
+        if kind == "on_order":
+            roles = ROLES_OF.get(part_of(name), set())
+            use = asked_of_order(name, parts)
+        else:
+            names = {role: usual_names(kind, role) for role in columns}
+            roles = {role for role in columns if plain_name(name) in names[role]}
+            use = asked_of_stock(name, columns["stock"].name)
+        is_known = use == COUNT and known & roles or use == MARK and use_of(name)
+        if use and not is_known:
+            asked[name] = use
+    return asked
+
+
+def faults_of_where(sheets: Mapping[str, Sheet], words: Reading) -> Iterator[Fault]:
     """Yields a fault for each column of `where` that no table has, or not the one that is named."""
     needed = words.where if words.is_where_needed and sheets else ()
     for kind, name, _ in dict.fromkeys(map(Condition.of, needed)):

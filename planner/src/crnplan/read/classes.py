@@ -1,20 +1,16 @@
-"""Puts items into classes: by the value of their demand (ABC), and by how much it varies (XYZ).
+"""Puts items into classes by the value of their demand (ABC).
 
-Source: Silver, Pyke and Thomas, Inventory and Production Management in Supply Chains (2017), section 2.4, for ABC. The
-limits of XYZ are a convention.
+Source: Silver, Pyke and Thomas, Inventory and Production Management in Supply Chains (2017), section 2.4.
 """
 from __future__ import annotations
 
 import math
-import operator
 from collections.abc import Hashable, Mapping, Sequence
 from fractions import Fraction
 from typing import TypeVar
 
 Name = TypeVar("Name", bound=Hashable)
-LETTERS, VARIED = "ABC", "XYZ"
-# The coefficients of variation up to which an item is X, and Y.
-MOST_VARIED = (0.5, 1.0)
+LETTERS = "ABC"
 
 
 def abc_of(values: Mapping[Name, Fraction], cuts: Sequence[int]) -> dict[Name, str]:
@@ -37,15 +33,3 @@ def abc_of(values: Mapping[Name, Fraction], cuts: Sequence[int]) -> dict[Name, s
         classes |= dict.fromkeys(by_value[value], letter)
         above += value * len(by_value[value])
     return classes
-
-
-def xyz_of(counts: Sequence[int]) -> str:
-    """Returns the class of an item by the coefficient of variation of its demand by period, the standard deviation of
-    the periods over their mean: X up to 0.5, Y up to 1, else Z. It is empty without demand.
-    """
-    if not any(counts):
-        return ""
-    total = sum(counts)
-    squares = sum(map(operator.mul, counts, counts))
-    variance = len(counts) * squares - total**2
-    return VARIED[sum(variance > (most * total) ** 2 for most in MOST_VARIED)]

@@ -6,7 +6,6 @@ weeks, months and years are of 1, 7, 30.4375 and 365.25 days, so a year has 52.1
 """
 from __future__ import annotations
 
-import re
 from collections.abc import Iterable, Mapping, Sequence
 from dataclasses import replace
 from fractions import Fraction
@@ -15,14 +14,26 @@ from typing import TYPE_CHECKING
 from ..errors import Fault, RefusedFaults
 from ..remarks import Remark, Value
 from ..table import names_of
-from .amounts import CODES, ITEM, SIGNS, UNITS
+from .amounts import AMOUNTS, ITEM, UNITS
+from .asked import Match, drop_units, narrowed, parted, words_of
 from .cells import HEADINGS, plain_name
-from .law_forms import LAWS, form_faults
+from .law_forms import LAWS
 from .sources import WIDE_ROLES, Column, Sheet
-from .wide import NO_WIDE_ROLES, turned_sheet, wide_sheet
+from .unit_words import (
+    BESIDE,
+    CURRENCIES,
+    IMPLIED,
+    SHARES,
+    bare_name,
+    counting,
+    currency_in_name,
+    is_number,
+    may_be_thousands,
+)
+from .wide import NO_WIDE_ROLES
 
 if TYPE_CHECKING:
-    from .items import Words
+    from .items import Reading
 
 # The roles of each table in order, and those that each must have. s and S differ by their case.
 ROLES = {
@@ -40,8 +51,13 @@ ROLES = {
         LAWS,
     )
 }
-# Tables whose columns may also have the names of another table.
-LIKE = {"placed": "on_order", "quantities": "placed"}
+# Tables whose columns may also have the names of others.
+LIKE = {
+    "stock": ["today"],
+    "on_order": ["today"],
+    "placed": ["on_order", "today"],
+    "quantities": ["placed"],
+}
 COLUMNS = [f"{kind}.{role}" for kind, roles in ROLES.items() for role in roles]
 NEEDED = {
     "demand": {"item", "date", "quantity"},
@@ -61,8 +77,6 @@ LEVELS = {"s": "S", "S": "s", "override_s": "override_S", "override_S": "overrid
 MONEY = ("setup", "holding", "backlog", "price", "supplier_min")
 # Roles that a column has by its whole name alone: others that begin so say something else, as a supplier's lead time or the price in a promotion.
 WHOLE_NAMES = {"supplier", "promotion"}
-BESIDE = {*HEADINGS["beside"]["words"]}
-IMPLIED = {name: unit for unit, names in HEADINGS["implied"].items() for name in names}
 DAYS = {
     "day": Fraction(1),
     "week": Fraction(7),
@@ -71,21 +85,7 @@ DAYS = {
 }
 # What the numbers of a role may count.
 COUNTED = HEADINGS["counted"]
-# Currencies by the plain words of their codes and signs. A sign without letters may stand anywhere in a heading.
-CURRENCIES = {
-    plain_name(word): SIGNS.get(word, word)
-    for word in (*SIGNS, *CODES)
-    if plain_name(word)
-}
-SYMBOL = re.compile(
-    "|".join(
-        re.escape(sign)
-        for sign in (*SIGNS, *CODES)
-        if not sign[-1].isalpha() and sign[-1] != "."
-    )
-)
 ROLE_UNITS = {role: kind for kind, its in COUNTED.items() for role in its["roles"]}
-SHARES = COUNTED["share"]["units"]
 PERIODS, NAMELESS = HEADINGS["periods"]["date"], HEADINGS["periods"]["nameless"]
 WANTED = COUNTED["share"]["roles"]  # shares of demand, or of periods
 TIMES = ("length", "span")  # the kinds of roles that count times
@@ -94,6 +94,7 @@ MOST_NAME = 100
 MOST_LISTED, FIRST_LISTED = 12, 5
 NO_ROW = Remark("no row")
 TWO_COLUMNS = "two columns"  # the code of what is said of these
+SEVERAL = "several units of a column"  # that of those in a heading that is stated
 
 
 def counts_items(role: str, column: Column | None) -> bool:
@@ -174,53 +175,11 @@ def periods_of(lead: Fraction) -> tuple[int, ...]:
     return tuple(leads) if len({*leads}) > 1 else (leads[0],)
 
 
-def is_number(words: Sequence[str], place: int) -> bool:
-    """Returns whether a word of a name is a number of items, as in `per 100` and `pack of 12`, and no year."""
-    word = words[place]
-    if place == 0 or not word.isdecimal() or not word.isascii():
-        return False
-    before = words[place - 1]
-    is_beside = before in BESIDE or UNITS.get(before) == "pack"
-    return is_beside and int(word) > 1 and not 1900 <= int(word) <= 2200
-
-
-def rank_of(unit: str) -> tuple[bool, bool, bool]:
-    """Returns what sorts the units of a name: a number says more than a share, that more than a time, and that more than
-    items."""
-    return not unit.isdecimal(), unit not in SHARES, unit == ITEM
-
-
-def bare_name(name: str) -> tuple[str, str]:
-    """Returns a plain name without the words of its unit, and the unit: one of headings.toml, a number of items, or the
-    empty text."""
-    words = name.split()
-    bare = list[str]()
-    units = list[str]()
-    for place, word in enumerate(words):
-        unit = word if is_number(words, place) else UNITS.get(word)
-        if unit:
-            units.append(unit)
-        elif word not in BESIDE:
-            bare.append(word)
-    if not units or len(words) == 1:
-        return name, IMPLIED.get(name, "")
-    return " ".join(bare), min(units, key=rank_of)
-
-
-def currency_in_name(name: str) -> str:
-    """Returns the currency that the name of a column says; empty if it says none."""
-    sign = SYMBOL.search(name)
-    if sign:
-        return SIGNS.get(sign[0], sign[0])
-    words = plain_name(name).split()[1:]
-    return next(filter(None, map(CURRENCIES.get, words)), "")
-
-
 def usual_names(kind: str, role: str) -> list[str]:
     """Returns the usual names of the column of a role in a table: those of all tables, its own, and those of the table that it
     is like."""
     names = list[str]()
-    for table in ("all", kind, LIKE.get(kind, kind)):
+    for table in ("all", kind, *LIKE.get(kind, ())):
         names += HEADINGS[table].get(role, ())
     return names
 
@@ -228,11 +187,11 @@ def usual_names(kind: str, role: str) -> list[str]:
 class Finder:
     """Finds the columns of a table in its heading, by the words of a planner and by usual names."""
 
-    def __init__(self, kind: str, words: Words, is_wide: bool = False) -> None:
+    def __init__(self, kind: str, words: Reading, is_wide: bool = False) -> None:
         self.kind = kind
         self.every = words.every
         self.is_wide = is_wide
-        self.needed = NEEDED[kind] - words.defaults.roles
+        self.needed = NEEDED[kind] - words.roles
         self.stated = words.columns.get(kind, {})
         self.units = words.units.get(kind, {})
         if is_wide:
@@ -249,7 +208,7 @@ class Finder:
         self.columns: dict[str, Column] = {}
         self.wrong: list[Remark] = []
 
-    def _match(self, plain: str) -> tuple[str | None, bool, list[str]]:
+    def _match(self, plain: str) -> Match:
         """Returns the role that a plain name may have, whether it is the very name of one, and the words of it that are not
         known. Else it is the name of the role with a unit, or the longest that it begins with: a minimum order value is
         no minimum order."""
@@ -289,7 +248,15 @@ class Finder:
         """
         self.plain = [*map(plain_name, heading)]
         self.matches = [*map(self._match, self.plain)]
-        stated, self.wrong = stated_columns(heading, self.stated)
+        if self.kind == "on_order":
+            self.plain = [" ".join(words_of(name)) for name in heading]
+            self.needed = self.needed - {"quantity"} | parted(
+                heading, self.matches, self.stated
+            )
+        if self.kind in LIKE:
+            self.matches = [*narrowed(heading, self.matches, AMOUNTS[self.kind])]
+        stated, wrong = stated_columns(heading, self.stated)
+        self.wrong = [remark for remark in wrong if remark.code != SEVERAL]
         for role, column in stated.items():
             self._add(role, column)
         for role in NO_WIDE_ROLES if self.is_wide else ():
@@ -298,6 +265,10 @@ class Finder:
         for role in ROLES[self.kind]:
             if not self.stated.get(role):
                 self._find(role, heading)
+        if self.kind in LIKE:
+            is_mixed = drop_units(self.columns, AMOUNTS[self.kind])
+            if is_mixed and self.kind == "on_order":
+                self._refuse("other units", "quantity")
         return self.columns, self.wrong
 
     def _find(self, role: str, heading: Sequence[str]) -> None:
@@ -379,24 +350,47 @@ class Finder:
         unknown = list[str]()
         for place, word in enumerate(words):
             is_known = word in known or has_unit and is_number(words, place)
+            is_known &= word not in BESIDE or place < len(words) - 1
             if place >= first and not is_known:
                 unknown.append(word)
         return unknown
 
+    def _unit(self, role: str, column: Column, currency: str) -> str:
+        """Returns the unit that the heading of a column says beside the name of its role, perhaps empty, and says what is
+        wrong if it says several."""
+        plain = self.plain[column.place]
+        kind = ROLE_UNITS.get(role)
+        if kind is None and role not in MONEY:
+            return ""
+        names = [name for name, own in self.role_of.items() if own == role]
+        begun = [name for name in names if f"{plain} ".startswith(f"{name} ")]
+        name = max(begun, key=len, default="")
+        bare, units = bare_name(plain.removeprefix(name))
+        implied = IMPLIED.get(name or bare)
+        if implied and (implied in SHARES or not units):
+            units.setdefault(implied, name or bare)
+        left = counting(units)
+        if currency and (left.keys() & SHARES or kind == "size" and left):
+            left[currency] = currency
+        facts = {"name": column.name, "number": min(left, default="")}
+        if len(left) > 1:
+            said = " and ".join(map(repr, left.values()))
+            self._refuse("several units", role, units=said, **facts)
+            return ""
+        if kind == "price" and may_be_thousands(plain, units):
+            self._refuse("thousands or items", role, **facts)
+        if currency and role not in MONEY:
+            return "money" if kind == "size" else currency
+        return next(iter(left), "")
+
     def _add(self, role: str, column: Column) -> None:
         """Adds the column of a role with its unit: the stated one, else that of its heading; and with the currency that
         this says."""
-        plain = self.plain[column.place]
         stated = self.units.get(role)
         kind = ROLE_UNITS.get(role)
         is_money = role in MONEY
-        is_plain = (
-            kind is None or self.role_of.get(plain) == role and plain not in IMPLIED
-        )
         currency = currency_in_name(column.name) * (kind is not None or is_money)
-        unit = stated or ("" if is_plain else bare_name(plain)[1])
-        if currency and not stated and not is_money:
-            unit = "money" if kind == "size" else currency
+        unit = stated or self._unit(role, column, currency)
         reason = unit_fault(role, unit) if unit else None
         if reason:
             self._refuse(
@@ -430,7 +424,8 @@ def stated_columns(
     heading: Sequence[str], names: Mapping[str, str]
 ) -> tuple[dict[str, Column], list[Remark]]:
     """Returns the columns that are stated for roles, and what is wrong with those that a heading doesn't have once. A
-    heading may name packs of so many items, and a time of lead times. Other units are the item's own, as kilograms.
+    heading may name packs of so many items, and a time of lead times, beside another word. Other units are the item's own,
+    as kilograms.
     """
     columns = dict[str, Column]()
     wrong = list[Remark]()
@@ -440,52 +435,17 @@ def stated_columns(
             facts = {"name": name, "role": role, "columns": listed(heading)}
             wrong.append(Remark("same columns" if count else "no stated column", facts))
         elif name:
-            _, unit = bare_name(plain_name(name))
+            bare, units = bare_name(plain_name(name))
             kind = ROLE_UNITS.get(role)
-            is_pack = kind in ("count", "size") and unit.isdecimal()
-            is_known = is_pack or kind in TIMES and unit in DAYS
-            columns[role] = Column(name, heading.index(name), unit=unit * is_known)
+            known = {*units} & DAYS.keys() if bare and kind in TIMES else set()
+            if kind in ("count", "size"):
+                known = {*filter(str.isdecimal, units)}
+            if len(known) > 1:
+                said = " and ".join(repr(units[unit]) for unit in sorted(known))
+                wrong.append(Remark(SEVERAL, {"name": name, "units": said}))
+            unit = next(iter(known), "")
+            columns[role] = Column(name, heading.index(name), unit=unit)
     return columns, wrong
-
-
-def find_heading(kind: str, sheet: Sheet, words: Words) -> Finder:
-    """Finds the heading of a table of a catalogue, and returns what finds its columns."""
-    finder = Finder(kind, words)
-    sheet.find_heading([*filter(None, finder.stated.values())], finder.usual_role)
-    return finder
-
-
-def columns_in(
-    finder: Finder, sheet: Sheet, words: Words
-) -> tuple[Sheet, list[Remark]]:
-    """Returns a table whose heading is found with its columns, as rows if it is a wide one, and what is wrong with them."""
-    kind = finder.kind
-    sheet.columns, wrong = {}, [NO_ROW]
-    if sheet.heading:
-        sheet.columns, wrong = finder.find(sheet.heading)
-    wide = wide_sheet(sheet) if finder.may_be_wide else None
-    if wide is None and sheet.heading and finder.turned_place is not None:
-        wide = turned_sheet(sheet, finder.turned_place)
-    if wide:
-        sheet = wide
-        finder = Finder(kind, words, is_wide=True)
-        sheet.columns, wrong = finder.find(sheet.heading)
-        wide.mark_used()
-    if kind == LAWS and not wrong:
-        wrong = [*form_faults(sheet.columns)]
-    return sheet, wrong
-
-
-def find_columns(kind: str, sheet: Sheet, words: Words) -> Sheet:
-    """Returns a table of a catalogue with its heading, its columns and its first rows. Raises RefusedFaults with all
-    that is wrong with them."""
-    finder = find_heading(kind, sheet, words)
-    if sheet.fault:
-        raise RefusedFaults([sheet.fault])
-    sheet, wrong = columns_in(finder, sheet, words)
-    if wrong:
-        raise refused_heading(sheet, wrong)
-    return sheet
 
 
 def refused_heading(sheet: Sheet, wrong: Iterable[Remark]) -> RefusedFaults:

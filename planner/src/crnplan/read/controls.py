@@ -13,7 +13,7 @@ import numpy as np
 import numpy.typing as npt
 
 from .amounts import AMOUNTS
-from .cells import Numbers, text_of
+from .cells import Flags, Numbers, text_of
 from .items import FileCounts
 from .observed import Day, sums_of
 from .sources import FILE_BITS, Sheet
@@ -21,12 +21,16 @@ from .tables import OTHER, REJECTED, STATES, USED, WITH_ITEM, TableReader, value
 
 PriceOf = Callable[[int], Fraction | None]  # of an item by its code
 # The amounts that are summed, of which the first one has a value.
-SUMMED: dict[str, tuple[str, ...]] = {kind: (*AMOUNTS[kind],) for kind in AMOUNTS}
+SUMMED: dict[str, tuple[str, ...]] = {
+    kind: tuple(role for role in roles if role != "factor")
+    for kind, roles in AMOUNTS.items()
+}
 SUMMED |= {"items": ("stock",), "laws": ()}
 # The columns whose first and last dates are named.
 DATED = {
     "demand": "date",
     "orders": "ordered",
+    "stock": "date",
     "on_order": "due",
     "placed": "due",
     "out_of_stock": "from",
@@ -38,7 +42,8 @@ NONE = Fraction(0)
 @dataclass(frozen=True)
 class Control:
     """What rows of a file come to: how many they are, the sum of their amounts by role, as they stand in the file, what
-    these are worth by the prices of the masters (None without a price), and their first and last date.
+    these are worth by the prices of the masters (None without a price), their first and last date, and how many of them
+    have an amount that can't be read, which is in no sum.
     """
 
     rows: int = 0
@@ -46,6 +51,7 @@ class Control:
     value: Fraction | None = None
     first: Day | None = None
     last: Day | None = None
+    unread: int = 0
 
     def __add__(self, other: Control) -> Control:
         """Returns what the rows of both come to."""
@@ -57,7 +63,8 @@ class Control:
             value = other.value + (value or NONE)
         first = min(filter(None, [self.first, other.first]), default=None)
         last = max(filter(None, [self.last, other.last]), default=None)
-        return Control(self.rows + other.rows, amounts, value, first, last)
+        rows, unread = self.rows + other.rows, self.unread + other.unread
+        return Control(rows, amounts, value, first, last, unread)
 
 
 # Controls by kind of table, file and state.
@@ -72,10 +79,11 @@ def tree_of(controls: Controls) -> list[Any]:
 def controls_in(tree: Iterable[Any]) -> Controls:
     """Returns controls that were kept as a tree."""
     controls: Controls = {}
-    for kind, file, state, rows, amounts, value, *days in tree:
+    for kind, file, state, rows, amounts, value, *days, unread in tree:
         sums = {role: Fraction(amount) for role, amount in amounts.items()}
-        ends = (day and Day.fromisoformat(str(day)) for day in days)
-        control = Control(rows, sums, value and Fraction(value), *ends)
+        first, last = (day and Day.fromisoformat(str(day)) for day in days)
+        worth = value and Fraction(value)
+        control = Control(rows, sums, worth, first, last, unread)
         controls[kind, file, state] = control
     return controls
 
@@ -135,8 +143,13 @@ class _Groups:
         """Takes how many items a unit of measure counts as."""
         self.table = table
         self.columns = table.rows.columns
-        self.sizes = [1]  # by the code of a unit of measure
-        if "measure" in self.columns:
+        # How many items a unit of measure has by the code of a row, and how many of these numbers are 1.
+        self.sizes, self.size = [1], 1
+        self.sized = "factor" if "factor" in self.columns else "measure"
+        if self.sized == "factor":
+            known = map(table.amounts["factor"].known, self.columns["factor"].distinct)
+            self.sizes, self.size = whole_numbers(known)
+        elif "measure" in self.columns:
             units = map(text_of, self.columns["measure"].distinct)
             self.sizes = [factors.get(unit, 1) for unit in units]
         files = table.rows.lines >> FILE_BITS
@@ -153,6 +166,16 @@ class _Groups:
         kind = np.int64 if most < MOST_EXACT else object
         return column.of_rows(numbers, kind), scale
 
+    def unread(self, roles: Iterable[str]) -> list[int]:
+        """Returns how many rows of each group have an amount that can't be read."""
+        unread: Flags = np.zeros(len(self.codes), bool)
+        for role in roles:
+            column, known = self.columns[role], self.table.amounts[role].known
+            cells = (cell != "" and known(cell) is None for cell in column.distinct)
+            unread |= column.of_rows(cells, bool)
+        counts: list[int] = np.bincount(self.codes[unread], None, self.count).tolist()
+        return counts
+
     def sums(self, role: str) -> list[Fraction]:
         """Returns the sum of a column's numbers in each group."""
         numbers, scale = self.numbers(role)
@@ -162,8 +185,8 @@ class _Groups:
     def worths(self, role: str, price_of: PriceOf) -> dict[int, Fraction]:
         """Returns what the items of a column are worth in each group with a price."""
         numbers, scale = self.numbers(role)
-        if "measure" in self.columns:
-            sizes = self.columns["measure"].of_rows(self.sizes, numbers.dtype.type)
+        if self.sized in self.columns:
+            sizes = self.columns[self.sized].of_rows(self.sizes, numbers.dtype.type)
             numbers = numbers * sizes
         size = len(self.columns["item"].distinct)
         keys = self.codes * size + self.columns["item"].codes
@@ -178,7 +201,7 @@ class _Groups:
             if prices[item] is not None:
                 worth = int(sums[key]) * whole_prices[item]
                 worths[group] = worths.get(group, 0) + worth
-        packs = Fraction(self.table.pack(role), scale * part)
+        packs = Fraction(self.table.pack(role), scale * part * self.size)
         return {group: worth * packs for group, worth in worths.items()}
 
     def ends(self, role: str) -> dict[int, tuple[Day, Day]]:
@@ -207,6 +230,7 @@ def controls_of(
     columns = table.rows.columns
     roles = [role for role in SUMMED[table.kind] if role in columns]
     sums = {role: groups.sums(role) for role in roles}
+    unread = groups.unread(roles)
     worths = dict[int, Fraction]()
     ends = dict[int, tuple[Day, Day]]()
     if roles:
@@ -220,8 +244,8 @@ def controls_of(
         if size:
             file, state = divmod(group, len(STATES))
             amounts = {role: sums[role][group] for role in roles}
-            days = ends.get(group, (None, None))
+            first, last = ends.get(group, (None, None))
             controls[table.kind, names[file], STATES[state]] = Control(
-                size, amounts, worths.get(group), *days
+                size, amounts, worths.get(group), first, last, unread[group]
             )
     return controls

@@ -18,6 +18,7 @@ import numpy as np
 
 from ..errors import Refused, argument
 from ..remarks import Remark
+from ..toml import documents
 from .cells import Cell, Numbers, Unreadable, bare_cell, plain_name, shown
 from .date_forms import (
     DATE_FORMS,
@@ -38,11 +39,6 @@ from .turned_dates import interchanged, turned
 Day = datetime.date
 EVERY = ("day", "week", "month")
 EPOCH = Day(1970, 1, 1).toordinal()
-NEED_PERIOD = (
-    "dates of movements and of orders need the period: say "
-    + ", ".join(argument("every", every) for every in EVERY[:-1])
-    + f" or {argument('every', EVERY[-1])}"
-)
 FIRST_YEAR, LAST_YEAR = 1980, 2199
 PROBES = (Day(2026, 3, 31), Day(1999, 12, 4))
 # The pattern that stands for days as a spreadsheet numbers them.
@@ -69,9 +65,9 @@ def check_format(pattern: str) -> None:
         is_whole = False
     if not is_whole:
         raise Refused(
-            f"{argument('date_formats', pattern)}: this is no pattern of a whole date; write one such as "
-            "%d.%m.%Y (%d is the day, %m the month, %Y the year, %y its last two digits), or "
-            f"{EXCEL} for a spreadsheet's numbers of days"
+            f"{documents.shown(pattern)} is no pattern of a whole date",
+            "write one such as %d.%m.%Y (%d is the day, %m the month, %Y the year, %y its last two digits), or "
+            f"{EXCEL} for a spreadsheet's numbers of days",
         )
 
 

@@ -41,7 +41,7 @@ from .sources import FILE_BITS, Sheet, TextSheet
 from .times import TimeReader
 
 if TYPE_CHECKING:
-    from .items import Words
+    from .items import Reading
 
 # The roles of masters that are times.
 SPANS = ("lead", "coverage", "shelf_life", "review")
@@ -216,7 +216,7 @@ class Whole:
     sums: Mapping[str, Fraction]
 
     @classmethod
-    def of(cls, tables: Mapping[str, FiledTable], words: Words) -> Whole:
+    def of(cls, tables: Mapping[str, FiledTable], words: Reading) -> Whole:
         """Looks at all tables. Raises Refused if the record has no day, or too many, and RefusedFaults if dates can't be
         read."""
         dates = {kind: date_reader(table) for kind, table in tables.items()}
@@ -224,7 +224,7 @@ class Whole:
             if doubt := reader.doubt():
                 raise RefusedFaults([Fault(doubt, tables[kind].sheet.name)])
         masters = tables["items"]
-        currencies = currencies_of(masters, words.defaults.currency)
+        currencies = currencies_of(masters, words.currency or "")
         amounts = dict[str, AmountReader]()
         for kind, table in tables.items():
             for role in AMOUNTS[kind]:
@@ -241,7 +241,9 @@ class Whole:
         if not days:
             check_readable(tables["demand"], dates["demand"])
         ends = ends_of(words.start, words.end)
-        record = record_of(days, words.every, *ends, words.today, LAWS in tables)
+        record = record_of(
+            days, words.every, *ends, words.today or Day.today(), LAWS in tables
+        )
         groups = frozenset(map(text_of, masters.counts("class")))
         sums = sums_of_columns(masters, amounts)
         return cls(dates, amounts, times, currencies, record, groups, sums)

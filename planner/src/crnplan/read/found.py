@@ -11,7 +11,7 @@ from .cells import Unreadable, on_one_line, text_of
 from .columns import ROLES
 from .dates import DateReader
 from .filed import FiledTable, Whole
-from .items import Words
+from .items import Reading
 from .sources import TextSheet
 from .times import TimeReader
 from .told import WRITTEN
@@ -23,7 +23,7 @@ SIDES = {
 
 
 def found_of(
-    tables: Mapping[str, FiledTable], whole: Whole, words: Words
+    tables: Mapping[str, FiledTable], whole: Whole, words: Reading
 ) -> dict[str, Any]:
     """Returns what was found in the tables, of which `Catalogue.found` makes lines of crnplan.toml."""
     record = whole.record
@@ -60,7 +60,7 @@ def _readers(whole: Whole, kind: str) -> dict[str, AmountReader | TimeReader]:
 
 
 def _written(
-    table: FiledTable, whole: Whole, kind: str, words: Words
+    table: FiledTable, whole: Whole, kind: str, words: Reading
 ) -> dict[str, Any]:
     """Returns how a table is written, as far as that is not stated of all files, and all of its files say the same."""
     texts = [file for file in table.sheet.files if isinstance(file, TextSheet)]

@@ -11,6 +11,7 @@ from typing import TYPE_CHECKING, Any, SupportsIndex
 import numpy as np
 
 from ..errors import Refused, argument
+from ..money import exact, is_missing
 from .cells import Cell, Shown, text_of
 from .sources import Row, Rules, Sheet
 
@@ -28,7 +29,6 @@ BY_ITEM = {
     "placed": "quantity",
     "quantities": "quantity",
 }
-MISSING = ("<NA>", "NaT", "nan", "NaN")  # as their values show themselves
 
 
 class FrameSheet(Sheet):
@@ -178,18 +178,15 @@ def _frame_of(name: str, series: pd.Series) -> pd.DataFrame:
     )
 
 
-def is_missing(value: Any) -> bool:
-    """Returns whether a value says that there is none: None, NaN, NaT, or what pandas has for it."""
-    return value is None or not isinstance(value, str) and str(value) in MISSING
-
-
 def number_of(value: int | float | Decimal, text: str) -> Cell:
-    """Returns a number, which shows a text."""
+    """Returns a number, which shows a text; the text of a decimal that has too many digits to be written in full."""
     if not isinstance(value, int):
         if Decimal(value).is_nan():
             return math.nan
         if not math.isfinite(value):  # nor is a decimal above every float
             return float(value)
+    if isinstance(value, Decimal) and exact(text) is None:
+        return text
     if value == int(value):
         return int(value)
     if Decimal(repr(float(text))) == Decimal(text):

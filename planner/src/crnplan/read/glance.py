@@ -8,7 +8,7 @@ from __future__ import annotations
 import contextlib
 import copy
 import itertools
-from collections.abc import Iterable, Iterator, Mapping, Sequence
+from collections.abc import Collection, Iterable, Iterator, Mapping, Sequence
 from dataclasses import dataclass, field
 from pathlib import Path
 from typing import Any
@@ -16,9 +16,11 @@ from typing import Any
 from ..errors import Fault, Refused, RefusedFaults
 from ..remarks import Remark
 from ..store.digests import digest_of
+from .asked import ORDERED
 from .cells import text_of
-from .columns import NEEDED, TWO_COLUMNS, columns_in, find_heading
-from .items import Words
+from .columns import NEEDED, TWO_COLUMNS
+from .headings import columns_in, find_heading
+from .items import Reading
 from .law_forms import LAWS
 from .opening import opened
 from .sources import Column, Sheet
@@ -28,6 +30,13 @@ ONE_LIKELY = "likely encodings 1"  # the code of what is said of bytes in such a
 # The roles that masters need, and that a planner may state for all items in place of a column.
 STATED = {"setup", "holding"}
 NAMES = {"item", "description"}  # the roles that each table of items has
+
+# Columns of today's tables that say little of what a table is.
+ASIDE = {
+    "stock": {"date", "measure", "factor"},
+    "on_order": {"received", "cancelled", "closed", "measure", "factor"},
+    "placed": {"measure", "factor"},
+}
 
 
 @dataclass(frozen=True)
@@ -61,16 +70,15 @@ class Glance:
         """Returns whether the file has all columns that its kind needs, and more than names."""
         if self.kind == LAWS and self.wrong:
             return False
-        return NEEDED[self.kind] - STATED <= self.seen and not self.seen <= NAMES
+        needed = needed_of(self.kind, self.seen) - STATED
+        return needed <= self.seen and not self.seen <= NAMES
 
     @property
     def rank(self) -> tuple[int, bool, bool]:
         """Returns what sorts the kinds that a file fits: by how many columns it has of each. Of two dates one is that of an order."""
-        return (
-            len(self.seen),
-            NEEDED[self.kind] <= self.seen,
-            self.kind == "orders",
-        )
+        needed = needed_of(self.kind, self.seen)
+        said = self.seen - ASIDE.get(self.kind, set())
+        return len(said), needed <= self.seen, self.kind == "orders"
 
     @property
     def likely(self) -> str:
@@ -86,7 +94,13 @@ class Glance:
         return {column.place: role for role, column in self.columns.items()}
 
 
-def glance(kind: str, table: str, words: Words, room: Path | None = None) -> Glance:
+def needed_of(kind: str, roles: Collection[str]) -> set[str]:
+    """Returns the roles that a table with these must have. What is ordered may say what is to come."""
+    is_ordered = kind == "on_order" and ORDERED in roles
+    return NEEDED[kind] - {"quantity"} if is_ordered else NEEDED[kind]
+
+
+def glance(kind: str, table: str, words: Reading, room: Path | None = None) -> Glance:
     """Returns what is seen of a file as a table of a kind. A gzipped file is unpacked in `room`."""
     faults = list[Fault]()
     try:
@@ -113,7 +127,7 @@ def glance(kind: str, table: str, words: Words, room: Path | None = None) -> Gla
 
 
 def glances(
-    kinds: Sequence[str], table: str, words: Words, room: Path | None = None
+    kinds: Sequence[str], table: str, words: Reading, room: Path | None = None
 ) -> list[Glance]:
     """Returns what is seen of a file as a table of each of some kinds. What these share is read once."""
     with contextlib.ExitStack() as stack:

@@ -59,7 +59,7 @@ class Item:
 
     `counts` is the demand by period, `returns` what came back by period, empty if nothing did, `leads` the lead times
     seen, in periods, and `levels` today's s and S, None if no policy is in use. `setup` is money an order, `holding`
-    and `backlog` money an item and period, `unit` money for each item ordered, which only counts over coming periods.
+    and `backlog` money an item and period.
     `fill` is the share of demand that is wanted at once, and `no_shortage` the share of periods that are to end with
     nothing owed; an item has a `backlog`, one of these shares, or both. `group` is its class, `borrow` from whom it learns
     its law, perhaps empty. `bounds` are those of its orders and levels. `past` is empty, NEW, STATED or one of UNORDERED.
@@ -74,8 +74,8 @@ class Item:
     `supplier_min` the money that an order of all items of the `supplier` comes to at least, `first` the number of the
     first period, `line` and `rows` are the line of the master and the rows of demand. `abc` is the class by the value
     of demand, empty without a price, and `category` the class that is shown: `group`, or `abc` if no item of the
-    catalogue has a class. `status` is what the master says of it, perhaps empty, and `predecessor` the item whose demand
-    it takes, if it succeeds one. `receipts` are the days that its received orders took, and `stated` those of its
+    catalogue has a class. `status` is what the master says of it, perhaps empty, `predecessor` the item whose demand it
+    takes, if it succeeds one, and `successor` the item that takes its own. `receipts` are the days that its received orders took, and `stated` those of its
     master, in the mean, None if it states none.
     """
 
@@ -87,7 +87,6 @@ class Item:
     holding: Fraction
     backlog: Fraction | None = None
     fill: Fraction | None = None
-    unit: Fraction = Fraction(0)
     returns: tuple[int, ...] = ()
     group: str = ""
     borrow: str = ""
@@ -109,6 +108,7 @@ class Item:
     category: str = ""
     status: str = ""
     predecessor: str = ""
+    successor: str = ""
     first: int = 0
     line: int = 0
     rows: int = 0

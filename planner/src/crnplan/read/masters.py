@@ -8,8 +8,9 @@ from fractions import Fraction
 from functools import partial
 from typing import Any, NamedTuple
 
+from ..money import MOST_DECIMALS
 from ..remarks import Value
-from .amounts import AMOUNTS, PERCENT
+from .amounts import AMOUNTS, KINDS, PERCENT
 from .bounds import Bounds
 from .cells import UNPRINTABLE, Cell, CellFault, RowReader, Unreadable, fault, shown
 from .columns import (
@@ -17,7 +18,6 @@ from .columns import (
     MONEY,
     NEEDED,
     ROLES,
-    SHARES,
     WANTED,
     factors_of,
     periods_a_year,
@@ -26,11 +26,12 @@ from .dates import period_of
 from .defaults import DEFAULT, MASTERS, ORDERS, currency_in, distinct
 from .filed import SPANS, Whole
 from .item import BORROW, Item, value_of
-from .items import Words
+from .items import Reading
 from .leads import counts_receipts, leads_from
 from .overrides import Override, level_faults, override_faults, word_of
 from .sources import Column
-from .status import status_of
+from .status import REPLACED, SUCCESSOR, status_of
+from .unit_words import SHARES
 
 TEXTS = ("description", "class", "supplier", "override_reason")
 # The roles whose readers convert their numbers.
@@ -66,11 +67,11 @@ class Masters:
     """Reads the rows of masters, with the unit of each column, and what holds if they say nothing."""
 
     def __init__(
-        self, whole: Whole, words: Words, columns: Mapping[str, Column]
+        self, whole: Whole, words: Reading, columns: Mapping[str, Column]
     ) -> None:
         self.whole = whole
         self.words = words
-        self.defaults = words.defaults
+        self.defaults = words
         self.units = {role: column.unit for role, column in columns.items()}
         factors = factors_of(columns, words.every)
         for role in CONVERTED & factors.keys():
@@ -83,6 +84,8 @@ class Masters:
         self.currencies = distinct(whole.currencies)
         self.usual_leads = self.defaults.leads(words.every)
         self.usual_review = self.defaults.reviews(words.every)
+        # The cells of money, by role, with more decimals than are kept.
+        self.fine = set[tuple[str, Cell]]()
         needed = NEEDED["items"] - self.defaults.roles
         self.cells = RowReader(self._readers(), needed, factors)
 
@@ -109,7 +112,10 @@ class Masters:
             unit = self.units.get(role, "")
             readers[role] = partial(read, unit=unit, every=every)
         for role, kind in AMOUNTS["items"].items():
-            readers.setdefault(role, partial(amounts[role].number, kind=kind))
+            read = partial(amounts[role].number, kind=kind)
+            if "decimals" in KINDS[kind]:
+                read = partial(self._money, role=role, kind=kind)
+            readers.setdefault(role, read)
         return readers | dict.fromkeys(TEXTS, printable)
 
     def _holding(self, cell: Cell) -> Fraction:
@@ -120,7 +126,21 @@ class Masters:
             return share * 100 if self.share == PERCENT else share
         if cell != "" and reader.amount(cell).unit == PERCENT:
             raise Unreadable("is share", cell)
-        return reader.number(cell, "cost")
+        return self._money(cell, "holding", "cost")
+
+    def _money(self, cell: Cell, role: str, kind: str) -> Fraction:
+        """Returns an amount, rounded to the decimals that are kept. Raises Unreadable, also for one that would be 0."""
+        reader = self.whole.amounts[role]
+        try:
+            return reader.number(cell, kind)
+        except Unreadable as why:
+            if why.remark.code != "decimals":
+                raise
+            number = round(reader.number(cell), MOST_DECIMALS)
+            if not number:
+                raise
+        self.fine.add((role, cell))
+        return number
 
     def price(self, cells: Mapping[str, Cell]) -> Fraction | None:
         """Returns the price of one item of a row; None if it has none that can be read."""
@@ -191,7 +211,7 @@ class Masters:
         goals = self.defaults.goals_of(group, read)
         sources |= goals.sources
         read["setup"] = self.defaults.setup if read["setup"] is None else read["setup"]
-        status, predecessor = read["status"] or ("", "")
+        status, other = read["status"] or ("", "")
         item = Item(
             name,
             (),
@@ -214,7 +234,8 @@ class Masters:
             supplier_min=read["supplier_min"],
             category=group,
             status=status,
-            predecessor=predecessor,
+            predecessor=other * (status == SUCCESSOR),
+            successor=other * (status == REPLACED),
             line=line,
             stated=self._days_of(stated),
         )

@@ -1,4 +1,4 @@
-"""Has the movements of an item, as rows of demand state them, and reads which rows are of a promotion."""
+"""Has the movements of an item, as rows of demand state them, the rows that can't be read, and those of a promotion."""
 from __future__ import annotations
 
 from collections.abc import Callable, Mapping
@@ -10,6 +10,7 @@ from .cells import (
     HEADINGS,
     Cell,
     CellFault,
+    Flags,
     Numbers,
     Unreadable,
     fault,
@@ -17,7 +18,9 @@ from .cells import (
     plain_name,
     text_of,
 )
+from .items import OUTSIDE
 from .rows import far_above
+from .tables import TableReader
 
 MARKS: Mapping[str, bool] = {
     word: mark == "yes" for mark, words in HEADINGS["marks"].items() for word in words
@@ -50,16 +53,9 @@ class Moves(NamedTuple):
             return self
         return Moves(*(values[self.blank == 0] for values in self))
 
-    def blank_places(self, first: int, count: int) -> set[int]:
-        """Returns the places of the periods that a row leaves without an amount, of so many from one on."""
-        return self._places(self.blank, first, count)
-
     def promoted_places(self, first: int, count: int) -> set[int]:
         """Returns the places of the periods with a row of a promotion, of so many from one on."""
-        return self._places(self.marked, first, count)
-
-    def _places(self, flags: Numbers, first: int, count: int) -> set[int]:
-        places = self.periods[flags == 1] - first
+        places = self.periods[self.marked == 1] - first
         return {place for place in places.tolist() if 0 <= place < count}
 
     def far(self, called: Callable[[int], int | str]) -> tuple[int, CellFault] | None:
@@ -76,3 +72,30 @@ class Moves(NamedTuple):
                 facts = {"lines": named, "times": times, "next": below}
                 return lines[0], fault(role, largest, "far", **facts)
         return None
+
+
+def unread_in(
+    demand: TableReader, bad: Flags, blank: Flags, facts: Numbers
+) -> tuple[Callable[[int], Numbers], Callable[[int], Numbers], dict[str, int]]:
+    """Returns the functions that give the facts of the rows of an item that have no amount that can be read, but a date,
+    and of those without such a date; and how many there are that can't be read. The facts of a row are its period, twice,
+    and its amount."""
+    rows, wrong = demand.rows, demand.wrong["date"]
+    undated = [code for code in wrong if wrong[code].code not in OUTSIDE]
+    is_undated = rows.good & bad & rows.having("date", undated)
+    is_dated = rows.good & ~rows.having("date", wrong)
+    counts = {
+        "unread_rows": int((is_dated & bad).sum()),
+        "undated_rows": int(is_undated.sum()),
+        "undated_items": int(facts[-1, is_undated].sum()),
+    }
+    gaps = is_dated & (bad | blank)
+    return rows.by_item(gaps, facts), rows.by_item(is_undated, facts), counts
+
+
+def places_of_spans(spans: Numbers, first: int, count: int) -> set[int]:
+    """Returns the places of the periods from the first to the last one of each span, of so many from one on."""
+    places = set[int]()
+    for start, end in spans[:2].T.tolist():
+        places.update(range(max(start - first, 0), min(end - first + 1, count)))
+    return places

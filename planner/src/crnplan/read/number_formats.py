@@ -12,15 +12,17 @@ import re
 from collections.abc import Iterable, Sequence
 from decimal import Decimal
 
+from .amounts import MINUS
 from .cells import Cell, Shown
 
 Number = int | float
 # The digits that Excel keeps of a number. What stands behind them comes from its arithmetic.
 DIGITS = 15
 # The parts of a format: a text in quotes, a letter behind a backslash, what is in brackets, a blank as wide as a letter,
-# a letter that fills the cell, the plain form, a half of a day, an exponent, and a letter.
+# a letter that fills the cell, dashes in place of decimals (`12.-`), the plain form, a half of a day, an exponent, and a
+# letter.
 PART = re.compile(
-    r'"(?P<quoted>[^"]*)"?|\\(?P<escaped>.)|\[(?P<bracket>[^\]]*)\]|_.|\*.|(?P<plain>General)|AM/PM|A/P|'
+    r'"(?P<quoted>[^"]*)"?|\\(?P<escaped>.)|\[(?P<bracket>[^\]]*)\]|_.|\*.|\.-+|(?P<plain>General)|AM/PM|A/P|'
     r"(?P<power>E[+-])|(?P<letter>.)",
     re.IGNORECASE | re.DOTALL,
 )
@@ -36,7 +38,7 @@ COMPARED = {
     "=": operator.eq,
 }
 # What says in a section for amounts below 0, or for 0, that they are.
-SIGNS = str.maketrans("", "", "-\u2212()")
+SIGNS = str.maketrans("", "", f"{MINUS}()")
 # What Excel shows of a number that is no date.
 PLACES = "0#?"  # letters that stand for a digit
 NO_DATE, ZERO_DATE = "########", "1900-01-00"
@@ -58,11 +60,15 @@ class Section:
         self.percents = self.commas = 0
         self.has_digits = self.is_plain = self.has_point = False
         self.condition: tuple[str, Decimal] | None = None
+        # Whether a reader sees of a number below 0 that it is.
+        self.shows_sign = is_first
         for part in parts:
             self._read(part)
         if not is_first:
-            self.before = self.before.translate(SIGNS)
-            self.behind = self.behind.translate(SIGNS)
+            before, behind = self.before, self.behind
+            self.before = before.translate(SIGNS)
+            self.behind = behind.translate(SIGNS)
+            self.shows_sign |= (before, behind) != (self.before, self.behind)
         # Who sees 12 for 12,000 may take it for either.
         self.behind = (self.behind or " thousand" * self.commas).rstrip()
         self.before = self.before.lstrip()
@@ -92,8 +98,11 @@ class Section:
             self._show(currency[1])
         elif condition:
             self.condition = condition[1], Decimal(condition[2])
+            self.shows_sign = True
         elif ELAPSED.fullmatch(text):
             self.dates += "s"
+        else:
+            self.shows_sign = True  # by a colour
 
     def _read_letter(self, letter: str) -> None:
         if letter in PLACES:
@@ -175,7 +184,8 @@ class Format:
 
     def cell(self, number: Number) -> Cell:
         """Returns what a reader sees of a number: a date, the number, the number with what is shown beside it, or a text
-        if it has leading zeros, or shows no digit."""
+        if it has leading zeros, or shows no digit. One below 0 whose sign is not shown has both readings.
+        """
         section = self._section(number)
         if section.dates:
             return self._date(number, section)
@@ -184,6 +194,9 @@ class Format:
         value = number
         if section.factor != 1:
             value = rounded(float(Decimal(repr(number)) * section.factor))
+        if value < 0 and not section.shows_sign:
+            seen = f"{section.behind} shown as {spelt(abs(value))}"
+            return Shown(section.before, spelt(value), seen)
         digits = padded(value, section)
         if digits:
             return f"{section.before}{digits}{section.behind}"

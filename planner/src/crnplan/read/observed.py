@@ -1,26 +1,23 @@
-"""Has what was observed of items: demand by period, lead times, the record of a file, and sums by period."""
+"""Has the record of a table of demand, and sums of its amounts by period."""
 from __future__ import annotations
 
 import datetime
 import functools
 from collections.abc import Mapping, Sequence
-from dataclasses import dataclass, field
-from typing import TYPE_CHECKING, Any
+from dataclasses import dataclass
+from typing import Any
 
 import numpy as np
 import numpy.typing as npt
 
-from ..errors import Fault, Refused, argument
+from ..errors import Refused, argument
 from ..formats import MOST_WEIGHT
 from ..remarks import Remark
 from ..toml.documents import shown
 from ..words import message
 from .cells import Numbers, Unreadable
-from .dates import DateReader, first_day, period_name, period_of
+from .dates import DateReader, period_of
 from .frames import cell_of
-
-if TYPE_CHECKING:
-    import pandas as pd
 
 Day = datetime.date
 # A row so many days away from the rest, if at most one row in so many is, has a wrong date.
@@ -28,106 +25,6 @@ FAR_DAYS, RARE = 366, 1_000
 # An item that is first seen after so many periods begins at its first movement.
 HALF_YEAR = {"day": 183, "week": 26, "month": 6}
 YEAR = {"day": 365, "week": 52, "month": 12}  # in periods
-
-
-@dataclass(frozen=True)
-class Observed:
-    """Whole numbers read from a file. A number has its place, or None if no row says it. `notes` are what is to be said
-    of the file, with its place; `faults` are those of rows that were left out. `unknown` has the places in `counts`,
-    from 0, of the numbers that are not known, which nothing is fitted to: a count is what was seen there.
-    """
-
-    counts: tuple[int, ...]
-    places: tuple[Fault | None, ...] = field(repr=False, compare=False)
-    notes: tuple[Fault, ...] = field(repr=False, compare=False)
-    faults: tuple[Fault, ...] = field(repr=False, compare=False)
-    unknown: tuple[int, ...] = field(default=(), kw_only=True)
-
-    @property
-    def known_places(self) -> list[int]:
-        """Returns the places in `counts` of the numbers that are known, from 0."""
-        unknown = {*self.unknown}
-        return [place for place in range(len(self.counts)) if place not in unknown]
-
-
-@dataclass(frozen=True)
-class History(Observed):
-    """Demand by period, in items.
-
-    Attributes
-    ----------
-    counts : tuple of int
-        The demand of each period.
-    unknown : tuple of int
-        The places in `counts`, from 0, of periods whose demand is not known: a count is what was seen there.
-    every : str or None
-        day, week (ISO) or month; None if each row is a period.
-    first : int
-        The number of the first period.
-    returns : History or None
-        What customers gave back in the same periods.
-    notes, faults : tuple of Fault
-        What is to be said of the file, and faults of rows that were left out.
-    places : tuple of Fault or None
-        Where each number stands, or None if no row says it.
-    """
-
-    every: str | None
-    first: int
-    returns: History | None = None
-
-    @property
-    def periods(self) -> tuple[str, ...]:
-        """Returns the names of the periods: 2026-03-31, 2026-W14, 2026-03, or 1, 2, 3 and so on."""
-        numbers = range(self.first, self.first + len(self.counts))
-        if self.every is None:
-            return tuple(map(str, numbers))
-        return tuple(period_name(number, self.every) for number in numbers)
-
-    def series(self) -> pd.Series:
-        """Returns the demand as a Series of whole numbers, by a PeriodIndex, or 1, 2, 3 and so on without dates. It is NA
-        in periods whose demand is not known."""
-        import pandas as pd
-
-        index: pd.Index = pd.RangeIndex(
-            self.first, self.first + len(self.counts), name="period"
-        )
-        if self.every:
-            frequency = {"day": "D", "week": "W-SUN", "month": "M"}[self.every]
-            first = pd.Period(first_day(self.first, self.every), freq=frequency)
-            index = pd.period_range(
-                first, periods=len(self.counts), freq=frequency, name=self.every
-            )
-        series = pd.Series(self.counts, index, name="demand")
-        if self.unknown:
-            series = series.astype("Int64")
-            series.iloc[[*self.unknown]] = pd.NA
-        return series
-
-    @property
-    def frame(self) -> pd.DataFrame:
-        """Returns a row for each period, by the index of `series`: demand, and what came back in `returned` if that is
-        known, in items."""
-        import pandas as pd
-
-        columns = {"demand": self.series()}
-        if self.returns:
-            columns["returned"] = self.returns.series()
-        return pd.DataFrame(columns)
-
-
-@dataclass(frozen=True)
-class LeadTimes(Observed):
-    """Lead times in whole periods, at least 1. `every` is the period of the dates, or None without dates."""
-
-    every: str | None
-
-    @property
-    def frame(self) -> pd.DataFrame:
-        """Returns a row for each order: lead, in periods."""
-        import pandas as pd
-
-        return pd.DataFrame({"lead": self.counts})
 
 
 @dataclass(frozen=True)
@@ -158,18 +55,26 @@ class Record:
         return first if period <= first + HALF_YEAR[self.every] else period
 
 
-def stated_day(name: str, day: object) -> Day | None:
-    """Returns a day that an argument states: a text, or a date or a time of any library. Raises Refused."""
-    if day is None:
-        return None
-    cell = cell_of(day)
+def day_of(value: object) -> Day:
+    """Returns a day that is stated: a text, or a date or a time of any library. Raises Refused."""
+    cell = cell_of(value)
     try:
-        found = DateReader().look([cell]).day(cell) if isinstance(day, str) else cell
+        found = DateReader().look([cell]).day(cell) if isinstance(value, str) else cell
     except Unreadable as fault:
-        raise Refused(f"{argument(name)}: {fault}") from fault
+        raise Refused(str(fault)) from fault
     if isinstance(found, Day):
         return found
-    raise Refused(f"{argument(name)}: {shown(day)} is no date", "write 2026-02-01")
+    raise Refused(f"{shown(value)} is no date", "write 2026-02-01")
+
+
+def stated_day(name: str, day: object) -> Day | None:
+    """Returns the day that an argument states; None without one. Raises Refused with its name."""
+    if day is None:
+        return None
+    try:
+        return day_of(day)
+    except Refused as why:
+        raise Refused(f"{argument(name)}: {why.what}", why.advice) from why
 
 
 def ends_of(

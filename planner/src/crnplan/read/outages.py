@@ -37,11 +37,3 @@ def outages_in(table: TableReader | None, record: Record) -> Spans:
     last[is_open] = record.last.toordinal()
     spans = np.stack([periods_of_days(days, record.every) for days in (first, last)])
     return rows.by_item(rows.good & ~bad & ~is_reversed, spans)
-
-
-def outage_places(spans: Numbers, first: int, count: int) -> set[int]:
-    """Returns the places of the periods in which an item was out of stock, of so many from one on."""
-    places = set[int]()
-    for start, end in spans.T.tolist():
-        places.update(range(max(start - first, 0), min(end - first + 1, count)))
-    return places

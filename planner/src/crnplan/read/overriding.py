@@ -24,7 +24,7 @@ from .catalogue_reading import READ, Catalogued
 from .cells import Cell, RowReader, fault, reason_of
 from .columns import ROLES, factors_of
 from .item import overridden
-from .items import Reject, Words, reject_of
+from .items import Reject, Reading, reject_of
 from .opening import Table
 from .overrides import Override, override_faults, word_of
 from .parts import ADD_REJECT, ITEM, REJECT, REPLACE_ITEM
@@ -70,7 +70,7 @@ def overrides_in(rows: Rows, every: str) -> dict[str, tuple[int, Override | None
 
 
 def read_overrides(
-    table: Table | None, words: Words
+    table: Table | None, words: Reading
 ) -> tuple[Stated, dict[str, Reject]]:
     """Returns what a table sets by item, None for an item of which nothing is set any longer; and by item what is to be
     said if no such item is in the catalogue. Raises Refused and RefusedFaults."""
@@ -120,7 +120,7 @@ def put_overrides(
 
 
 def set_overrides(
-    folder: Folder, table: Table | None, words: Words, after: Path | None
+    folder: Folder, table: Table | None, words: Reading, after: Path | None
 ) -> None:
     """Puts what planners have set into the catalogue that was read into a folder: by a table, and for an earlier plan in
     another folder. Raises Refused and RefusedFaults."""

@@ -16,7 +16,7 @@ from .classes import abc_of
 from .controls import Controls
 from .filed import FiledTable, Part, Whole
 from .item import Item
-from .items import Reject, Words
+from .items import Reject, Reading
 from .reader import Reader
 from .repeated import Shared, names_apart, shared_in
 
@@ -48,13 +48,13 @@ class PartRead:
     decimals: int
 
 
-def values_of_part(part: Part, words: Words, whole: Whole) -> list[Fraction | None]:
+def values_of_part(part: Part, words: Reading, whole: Whole) -> list[Fraction | None]:
     """Returns the value of the mean demand of each item of a part, in order of names."""
     return Reader(part.rows(), words, whole).values()
 
 
 def items_of_part(
-    part: Part, words: Words, whole: Whole, letters: Sequence[str], path: Path
+    part: Part, words: Reading, whole: Whole, letters: Sequence[str], path: Path
 ) -> PartRead:
     """Writes the items of a part, with their classes in order of names, into a new file."""
     with contextlib.closing(sqlite3.connect(path)) as base:
@@ -81,7 +81,7 @@ def items_of_part(
 def read_parts(
     tables: Mapping[str, FiledTable],
     whole: Whole,
-    words: Words,
+    words: Reading,
     workers: Workers,
     room: Path,
     count: int,
@@ -97,11 +97,9 @@ def read_parts(
         for place, value in enumerate(of_part):
             if value is not None:
                 known[number, place] = value
-    classes = abc_of(known, words.defaults.abc)
-    words.defaults.check_classes(
-        whole.groups if any(whole.groups) else {*classes.values()}
-    )
-    asked = list[tuple[Part, Words, Whole, list[str], Path]]()
+    classes = abc_of(known, words.abc)
+    words.check_classes(whole.groups if any(whole.groups) else {*classes.values()})
+    asked = list[tuple[Part, Reading, Whole, list[str], Path]]()
     for number, part in enumerate(parts):
         letters = [
             classes.get((number, place), "") for place in range(len(values[number]))

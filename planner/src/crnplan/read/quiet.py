@@ -9,7 +9,7 @@ thousand active items one at most is taken for stopped. A record often begins wi
 is left out. Demands of one month count as one, since they often belong together. The premise is that months are
 independent and of one law. So an item must have been quiet for a year too, which no season explains, and for longer than
 ever before. Of items that are asked for in projects alone, of 2 to 12 weeks, with 40 weeks between them on average,
-6% are taken for stopped after three years (planner/tests/plan/test_stopped.py): a master's status says better.
+6% are taken for stopped after three years (planner/tests/plan/test_stopped.py).
 """
 from __future__ import annotations
 
@@ -22,6 +22,7 @@ from .dates import period_name
 from .item import Item
 from .observed import YEAR
 
+QUIET = "asked for no longer"  # the code of what is said of an item that has stopped by its record
 CHANCE = 0.001  # of an active item to be taken for stopped
 MONTH = {"day": 28, "week": 4, "month": 1}  # in periods
 
@@ -86,7 +87,7 @@ def quiet_remark(item: Item, every: str) -> Remark:
     counts = item.known.counts
     quiet = quiet_periods(counts)
     return Remark(
-        "asked for no longer",
+        QUIET,
         {
             "periods": quiet,
             "every": every,

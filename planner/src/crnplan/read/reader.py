@@ -9,7 +9,7 @@ from fractions import Fraction
 
 import numpy as np
 
-from ..formats import MOST_ITEMS, MOST_LEAD
+from ..formats import MOST_ITEMS
 from ..remarks import Remark, Value
 from .cells import UNPRINTABLE, Cell, Flags, Numbers, fault, named_lines, text_of
 from .choosing import named_values, places_of
@@ -18,14 +18,15 @@ from .dates import period_name, periods_of_days
 from .defaults import LEAVE_OUT
 from .filed import Whole
 from .item import PHASE_OUT, STOPPED, Item, overridden, some
-from .items import OUTSIDE, Left, Reject, Words
+from .items import OUTSIDE, Left, Reject, Reading
 from .leads import remark_on
 from .masters import Master, Masters
-from .moves import Moves, is_marked
+from .moves import Moves, is_marked, places_of_spans, unread_in
 from .observed import summed, sums_of
 from .law_forms import LAWS
-from .outages import OUT, outage_places, outages_in
+from .outages import OUT, outages_in
 from .quiet import quiet_remark
+from .receipts import receipts_in
 from .repeated import is_called_total, total_rows
 from .rows import Rows
 from .sources import NONE
@@ -43,7 +44,7 @@ class Reader:
     def __init__(
         self,
         rows: Mapping[str, Rows],
-        words: Words,
+        words: Reading,
         whole: Whole,
         add: Callable[[Reject], None] | None = None,
     ) -> None:
@@ -99,6 +100,25 @@ class Reader:
                 places.setdefault(item, (kind, line))
         return places
 
+    def _items_of(self, *kinds: str) -> set[int]:
+        """Returns the items of some tables, also of rows that can't be used."""
+        items = set[int]()
+        for own in (self.rows[kind] for kind in kinds if kind in self.rows):
+            items.update(own.items[~own.other].tolist())
+        return items
+
+    @functools.cached_property
+    def asked(self) -> set[int]:
+        """Returns the items of masters that have demand or a stated law."""
+        return self._items_of("items") & self._items_of("demand", LAWS)
+
+    def _is_lost(self, item: int) -> bool:
+        """Returns whether an item that is left out would else be planned: it is asked for, and its status does not end
+        it."""
+        cell = self._cells(self.masters_of(item)).get("status", "")
+        status, _ = self.masters.cells.value("status", cell, []) or ("", "")
+        return item in self.asked and status not in (STOPPED, PHASE_OUT)
+
     def values(self) -> list[Fraction | None]:
         """Returns the value of the mean demand of each item, in order of names; None without a price or demand."""
         return [self._value_of_demand(item) for item in self.items]
@@ -113,7 +133,7 @@ class Reader:
             return None if mean is None else price * mean
         first = self.record.first_of(int(moves.periods.min()))
         periods = self.record.periods.stop - first
-        unknown = self._unknown(item, first, periods)
+        unknown = [*set[int]().union(*self._unknown(item, first, periods))]
         is_known = ~np.isin(moves.periods - first, unknown)
         asked = int(moves.asked[is_known].sum())
         if asked <= 0:
@@ -137,7 +157,10 @@ class Reader:
         """Yields all items in order of names, in which their classes by value are given. Those of totals alone are
         none."""
         self.letters = dict(zip(self.items, letters, strict=True))
-        receipts_of = self._receipts()
+        receipts_of, open_orders = receipts_in(
+            self.tables.get("orders"), self.words.every
+        )
+        self.numbers["open_orders"] += open_orders
         became = np.full(len(self.names), PLACES[OPEN], np.int8)
         for item in self.items:
             moves = self.moves_of(item)
@@ -153,6 +176,8 @@ class Reader:
                 self.tables[kind].name("item", line, name, faults, rows, value)
                 became[item] = PLACES[WITH_ITEM]
                 self.numbers["left_out"] += 1
+                if self._is_lost(item):
+                    self.numbers["lost"] += 1
         for table in self.tables.values():
             table.close(became)
 
@@ -198,6 +223,9 @@ class Reader:
         totals = self._reject_moves(np.flatnonzero(rows.good & bad))
         good = self._without_twins(rows.good & ~bad)
         periods = periods_of_days(days, words.every)
+        unread = unread_in(demand, bad, blank, np.stack([periods, periods, asked]))
+        self.gaps_of, self.undated_of, counts = unread
+        self.numbers.update(counts)
         facts = np.stack([rows.lines, periods, asked, back, blank, marked])
         moves = rows.by_item(good, facts)
         return lambda item: Moves(*moves(item)), totals
@@ -251,33 +279,6 @@ class Reader:
             demand.states[[*firsts]] = PLACES[REJECTED]
         return good
 
-    def _receipts(self) -> Callable[[int], Numbers]:
-        """Returns the function that gives what the received orders of an item took, in periods and in days. Orders with
-        faults are rejected."""
-        if "orders" not in self.tables:
-            return lambda item: np.zeros((2, 0), np.int64)
-        table = self.tables["orders"]
-        rows = table.rows
-        orders = table.read_orders(self.words.every)
-        is_open = rows.good & orders.is_open
-        received = rows.good & ~orders.is_open
-        is_early = orders.days < 0
-        bad = received & (table.bad | is_early | (orders.leads > MOST_LEAD))
-        for row in np.flatnonzero(bad).tolist():
-            received_cell = rows.cell("received", row)
-            lead = int(orders.leads[row])
-            wrong = fault(
-                "received", received_cell, "lead range", lead=lead, most=MOST_LEAD
-            )
-            if is_early[row]:
-                ordered = text_of(rows.cell("ordered", row))
-                wrong = fault(
-                    "received", received_cell, "before order", ordered=ordered
-                )
-            table.reject(row, table.faults(row) or [wrong])
-        self.numbers["open_orders"] += int(is_open.sum())
-        return rows.by_item(received & ~bad, np.stack([orders.leads, orders.days]))
-
     def _item(
         self, code: int, moves: Moves, leads: Sequence[int], receipts: Sequence[int]
     ) -> Item:
@@ -290,13 +291,14 @@ class Reader:
         if stated and not len(moves.lines):
             first = self.record.periods.stop  # It has no history.
         asked, back, netted = self._counts(moves.known, first)
+        gaps, cut = self._unknown(code, first, len(asked))
         item = replace(
             master.item,
             law=stated and stated.law,
             counts=tuple(asked),
             returns=some(back),
-            unknown=self._unknown(code, first, len(asked)),
-            cut=self._cut(code, first, len(asked)),
+            unknown=tuple(sorted(gaps | cut)),
+            cut=tuple(sorted(cut)),
             promoted=tuple(sorted(moves.promoted_places(first, len(asked)))),
             first=first,
             rows=len(moves.lines),
@@ -310,8 +312,8 @@ class Reader:
         self.decimals = max(self.decimals, master.decimals)
         self.sources.update(master.sources.items())
         is_bare = stated is not None and not asked
-        is_late = first > self.record.periods[0] and master.since is None
-        is_late &= not is_bare
+        begins_late = first > self.record.periods[0] and master.since is None
+        is_late = begins_late and not is_bare
         self.numbers["late"] += is_late
         self._note_unknown(item, moves)
         remarks = tuple(self._remarks(item, code, is_late, netted))
@@ -319,8 +321,7 @@ class Reader:
             remarks = (stated.remark, *remarks)
             self.numbers["stated"] += 1
             self.numbers["bare"] += is_bare
-        if remarks:
-            item = replace(item, remarks=remarks)
+        item = replace(item, remarks=remarks)
         return overridden(item, item.override)
 
     def _past(self, item: Item) -> str:
@@ -329,18 +330,11 @@ class Reader:
         by_test, has_law = words.stopped == BY_TEST, item.law is not None
         return past_of(item.status, known, words.least, words.every, by_test, has_law)
 
-    def _unknown(self, code: int, first: int, count: int) -> tuple[int, ...]:
-        """Returns the places of the periods whose demand is not known, of so many from one on: those that a row leaves
-        without an amount, and those in which an item was out of stock."""
-        blank = self.moves_of(code).blank_places(first, count)
-        return tuple(sorted(blank | outage_places(self.outages_of(code), first, count)))
-
-    def _cut(self, code: int, first: int, count: int) -> tuple[int, ...]:
-        """Returns those of the places in which an item was out of stock, and all rows have an amount."""
-        places = outage_places(self.outages_of(code), first, count)
-        if places:
-            places -= self.moves_of(code).blank_places(first, count)
-        return tuple(sorted(places))
+    def _unknown(self, code: int, first: int, count: int) -> tuple[set[int], set[int]]:
+        """Returns the places of the periods of which a row of an item has no amount that can be read, of so many from one
+        on, and those of the others in which it was out of stock."""
+        gaps = places_of_spans(self.gaps_of(code), first, count)
+        return gaps, places_of_spans(self.outages_of(code), first, count) - gaps
 
     def _note_unknown(self, item: Item, moves: Moves) -> None:
         """Counts the promoted and the unknown periods of an item, and names the rows that leave these so, if no word says
@@ -380,6 +374,10 @@ class Reader:
             yield Remark("unknown periods", {**facts, "periods": gaps})
         if item.cut:
             yield Remark("out of stock", {**facts, "periods": len(item.cut)})
+        _, _, undated = self.undated_of(code)
+        if undated.size:
+            lost = {"rows": undated.size, "items": int(undated.sum())}
+            yield Remark("undated rows", {**facts, **lost})
         if item.promoted:
             yield Remark("promoted", {**facts, "periods": len(item.promoted)})
         if netted:
@@ -474,6 +472,9 @@ class Reader:
         stated = UNPRINTABLE.sub(" ", text_of(cells.get("class")))
         group = stated if any(self.whole.groups) else self.letters.get(item, "")
         read, faults = self.masters.read(cells, leads, group)
+        rounded = self.masters.fine.intersection(cells.items())
+        if rounded:
+            self.numbers["rounded"] += len(rounded)
         is_empty = not len(moves.lines) and not (self.laws and self.laws.line(item))
         if not faults and is_empty and self._has_row_inside(item):
             faults = [fault("item", name, "no rows")]

@@ -9,7 +9,7 @@ import numpy as np
 
 from ..errors import Fault
 from ..remarks import Remark
-from .cells import TOTAL, Flags, Numbers, shown
+from .cells import TOTAL, Flags, Numbers
 from .sources import FILE_BITS, Sheet
 
 if TYPE_CHECKING:
@@ -18,8 +18,6 @@ if TYPE_CHECKING:
 
 # The columns of masters of which a total has the sum.
 ADDED = ("stock", "s", "S", "price", "setup", "holding", "backlog", "pack", "order_min")
-# A sum of fewer rows may well come again below them.
-LEAST_SUMMED = 6
 Shared = Numbers  # how many different rows two files of a table share, a row and a column for each file
 
 
@@ -111,22 +109,6 @@ def sums_of_columns(
 
 def is_called_total(name: object) -> bool:
     return TOTAL.match(str(name)) is not None
-
-
-def total_of(
-    place: str, cells: Iterable[str], number: int | None, others: Sequence[int]
-) -> Remark | None:
-    """Returns that a row of a history in a place looks like a total of the rows above: it is called so, or its number is
-    the sum of theirs. None if it doesn't."""
-    word = next(filter(is_called_total, cells), None)
-    if word is not None:
-        return Remark(f"{place} total", {"text": shown(word)})
-    is_sum = (
-        len(others) >= LEAST_SUMMED
-        and number == sum(others)
-        and sum(map(bool, others)) > 1
-    )
-    return Remark(f"{place} sum", {"number": number}) if is_sum else None
 
 
 def total_rows(

@@ -186,12 +186,12 @@ class Table(Protocol):
         ...
 
 
-def date_reader(table: Table) -> DateReader:
-    """Returns what reads the dates of a table, after a look at all of them."""
+def date_reader(table: Table, amounts: Collection[str] = ()) -> DateReader:
+    """Returns what reads the dates of a table, after a look at all of them. Roles of amounts are no dates."""
     rules = table.sheet.rules
     reader = DateReader(rules.date_formats, rules.every, rules.day_first)
     for role in DATES:
-        if role in table.sheet.columns:
+        if role in table.sheet.columns and role not in amounts:
             reader.look_at_name(table.sheet.columns[role].name)
         reader.look(table.counts(role))
     return reader

@@ -9,8 +9,8 @@ from pathlib import Path
 from ..errors import Fault, RefusedFaults
 from ..remarks import Remark
 from .choosing import faults_of_where, marks_of
-from .columns import find_columns
-from .items import Words
+from .headings import find_columns
+from .items import Reading
 from .opening import LOCK, Table, opened
 from .sources import FILE_BITS, Sheet, TextSheet, refused
 
@@ -62,7 +62,7 @@ def files_of(table: Table, kind: str) -> tuple[Sequence[Table], Sequence[str]]:
 def open_table(
     kind: str,
     table: Table,
-    words: Words,
+    words: Reading,
     room: Path | None,
     stack: contextlib.ExitStack,
 ) -> Sheet:
@@ -76,7 +76,7 @@ def open_table(
             rules = words.rules_of(kind)
             opening = stack.enter_context(opened(file, kind, rules, room))
             sheet = find_columns(kind, opening, words)
-            sheet.marks = marks_of(kind, sheet, words.where)
+            sheet.marks = marks_of(kind, sheet, words)
             sheets.append(sheet)
         except RefusedFaults as why:
             faults += why.faults
@@ -95,7 +95,7 @@ def open_table(
 
 @contextlib.contextmanager
 def open_tables(
-    tables: Mapping[str, Table | None], words: Words, room: Path | None = None
+    tables: Mapping[str, Table | None], words: Reading, room: Path | None = None
 ) -> Iterator[dict[str, Sheet]]:
     """Gives tables after a look at their heads. Raises RefusedFaults with all that is wrong with these."""
     sheets: dict[str, Sheet] = {}

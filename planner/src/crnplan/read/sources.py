@@ -18,9 +18,12 @@ from functools import partial
 from pathlib import Path
 from typing import Any, NamedTuple
 
-from ..errors import Fault, Refused, RefusedFaults, argument
+from ..errors import Fault, Refused, RefusedFaults
 from ..remarks import Remark, Value
+from ..toml import documents
+from ..vocabulary import TEXTS, Kind, Vocabulary, choice, read_text, several, word
 from .amounts import DECIMALS
+from .asked import is_base
 from .cells import Cell, shown, text_of
 from .dates import check_format
 from .encodings import likely_encodings
@@ -62,6 +65,11 @@ class Column:
     counts: str = ""
     currency: str = ""
 
+    @property
+    def unit_said(self) -> str:
+        """Returns what its name or a planner says that it counts, whatever the unit of measure of a row is."""
+        return self.counts or "base" * is_base(self.name)
+
 
 class Mark(NamedTuple):
     """A column that chooses the rows of a table, which have one of the wanted texts in it, or that is watched for its
@@ -72,48 +80,70 @@ class Mark(NamedTuple):
     wanted: frozenset[str] = frozenset()
 
 
-@dataclass(frozen=True)
-class Rules:
+def encoding_of(value: Any) -> str:
+    """Returns the name of an encoding of texts. Raises Refused."""
+    name = read_text(value)
+    try:
+        b"a".decode(name, "replace")
+    except (LookupError, ValueError) as fault:
+        what = f"{documents.shown(name)} is no encoding of texts"
+        raise Refused(what, "write utf-8, latin-1 or cp1252") from fault
+    return name
+
+
+def pattern_of(value: Any) -> str:
+    """Returns a pattern of dates. Raises Refused."""
+    pattern = read_text(value)
+    check_format(pattern)
+    return pattern
+
+
+DELIMITER = choice(*DELIMITERS, said=", and ; (in quotes) and tab", metavar="SIGN")
+DECIMAL = choice(*DECIMALS, said=". and ,")
+ENCODING = Kind(encoding_of, "str", "NAME")
+
+
+@dataclass(frozen=True, init=False, repr=False)
+class Rules(Vocabulary):
     """How files are read. None and nothing mean that the file says it. Raises Refused for what can't be meant.
 
-    `item` has the text of each column in the rows of the item. `leave_out`: go on without rows that have a fault.
     `every` is the period of dates that are whole weeks or months. `decimals` are the decimal signs of single columns by
-    role, which count before `decimal`. `empty` says what an empty cell of demand means, one of EMPTY. `day_first` says by sign whether the day comes first in a date with slashes or
+    role, which count before `decimal`. `day_first` says by sign whether the day comes first in a date with slashes or
     dashes that may have the month first.
     """
 
-    delimiter: str | None = None
-    encoding: str | None = None
-    decimal: str | None = None
-    date_formats: tuple[str, ...] = ()
-    item: Mapping[str, str] = field(default_factory=dict)
-    leave_out: bool = False
+    delimiter: str | None = word(
+        DELIMITER,
+        help="One of , ; tab. It is found from the heading and the rows.",
+    )
+    encoding: str | None = word(
+        ENCODING,
+        help="For example cp1252; without it that of the byte order mark, or UTF-8.",
+    )
+    decimal: str | None = word(
+        DECIMAL, help="The decimal sign; without it each column must decide it."
+    )
+    date_formats: tuple[str, ...] = word(
+        Kind(several(pattern_of), "str or list of str", "PATTERN", TEXTS),
+        (),
+        "A pattern as %d/%m/%y in place of the usual forms, or excel for a spreadsheet's numbers.",
+        flag="date-format",
+    )
     every: str | None = None
     decimals: Mapping[str, str] = field(default_factory=dict)
     day_first: Mapping[str, bool] = field(default_factory=dict)
-    empty: str | None = None
+    empty: str | None = word(
+        choice(*EMPTY),
+        help="An empty cell of demand: a period whose demand is unknown, or none. By default none in a table with a column "
+        "for each period, unless others say 0, and unknown in one with dates.",
+    )
 
     def decimal_of(self, role: str) -> str | None:
-        """Returns the stated decimal sign of a column; None if its cells say it."""
-        return self.decimals.get(role, self.decimal)
+        """Returns the stated decimal sign of a column; None if its cells say it.
 
-    def __post_init__(self) -> None:
-        if self.delimiter is not None and self.delimiter not in DELIMITERS:
-            raise Refused(
-                f"{argument('delimiter', self.delimiter)} is not one of , and ; (in quotes) and tab"
-            )
-        for sign in (self.decimal, *self.decimals.values()):
-            if sign is not None and sign not in DECIMALS:
-                raise Refused(f"{argument('decimal', sign)} is not one of . and ,")
-        try:
-            b"a".decode(self.encoding or "utf-8", "replace")
-        except (LookupError, ValueError) as fault:
-            raise Refused(
-                f"{argument('encoding', str(self.encoding))} is no encoding of texts; say utf-8, latin-1 or "
-                "cp1252"
-            ) from fault
-        for pattern in self.date_formats:
-            check_format(pattern)
+        :meta private:
+        """
+        return self.decimals.get(role, self.decimal)
 
 
 def escape(fault: Any) -> tuple[str, int]:
@@ -347,25 +377,9 @@ class Sheet:
         rows = itertools.islice(self.rows(), SAMPLE_ROWS)
         return [(line, [*map(text_of, cells)]) for line, cells in rows]
 
-    def texts(self, lines: Iterable[int]) -> dict[int, str]:
-        """Returns the text of each of the rows that begin in these lines."""
-        wanted = {*lines}
-        texts = dict[int, str]()
-        with self.unchanged():  # Rows that are left early don't look.
-            for line, cells in self.rows() if wanted else ():
-                if line in wanted:
-                    texts[line] = self.text_of(cells)
-                if len(texts) == len(wanted):
-                    break
-        return texts
-
     def text_of(self, cells: Sequence[Cell]) -> str:
         """Returns the text of the row that was given last."""
         return ",".join(map(text_of, cells))
-
-    def place(self, text: str, line: int, place: int) -> tuple[int, int]:
-        """Returns the line and the column in which a cell of a row begins, by the text of the row."""
-        return line, place + 1
 
 
 class _Bytes(io.RawIOBase):
@@ -469,12 +483,3 @@ class TextSheet(Sheet):
     def text_of(self, cells: Sequence[Cell]) -> str:
         """Returns the text of the row that was given last, as it stands in the file."""
         return "".join(self.kept).rstrip("\r\n")
-
-    def place(self, text: str, line: int, place: int) -> tuple[int, int]:
-        """Returns the line and the column in which a cell begins. One that isn't there begins at the end of its row."""
-        sign = re.escape(self.delimiter)
-        cells = re.finditer(rf' *(?:"(?:[^"]|"")*")?[^{sign}]*(?:{sign}|\Z)', text)
-        cell = next(itertools.islice(cells, place, None), None)
-        rest = text[cell.start() :] if cell else ""
-        start = len(text) - len(rest.lstrip(" "))
-        return place_behind(text[:start], line)

@@ -14,13 +14,15 @@ from typing import Any
 import numpy as np
 
 from ..errors import Fault, RefusedFaults
-from ..remarks import Remark
+from ..remarks import Remark, Value
 from .amounts import AMOUNTS
-from .cells import Cell, CellFault, RowReader, fault, reason_of
-from .choosing import said_of_marks, split_items
+from .asked import ORDERED
+from .asking import closed_rows, question, questions, sizes_of
+from .cells import Cell, CellFault, Flags, RowReader, fault, reason_of, text_of
+from .choosing import PLACE, said_of_marks, split_items
 from .columns import factors_of
 from .controls import Controls, controls_of, counts_of, no_rows, together
-from .items import FileCounts, Reject, Words
+from .items import FileCounts, Reject, Reading
 from .observed import Day
 from .opening import Table
 from .quantities import Quantity, quantity_fault
@@ -67,7 +69,8 @@ class Arrival:
 class Holdings:
     """What tables say of today, by item. `on_hand` is None without a table of stock. `unread` are items with a row that
     can't be read: what they have is not known. `quantities` are what a planner orders. `counts` say what became of the
-    rows of each table, `controls` what they come to, and `remarks` what is to be said of them.
+    rows of each table, `controls` what they come to, and `remarks` what is to be said of them. `as_of` is the day of the
+    stock, None if no column says it. `filed` has what was ordered in each row of open orders, also if nothing is to come.
     """
 
     on_hand: Mapping[str, OnHand] | None
@@ -78,13 +81,19 @@ class Holdings:
     rejects: tuple[Reject, ...]
     remarks: tuple[Remark, ...] = ()
     controls: Controls = field(default_factory=dict)
+    as_of: Day | None = None
+    filed: Mapping[str, Sequence[Fraction]] = field(default_factory=dict)
 
 
 class _Reader:
     """Reads the rows of a table for the items of a plan, whose prices are known, and names those that it leaves out."""
 
     def __init__(
-        self, kind: str, sheet: Sheet, prices: Mapping[str, Fraction | None], every: str
+        self,
+        kind: str,
+        sheet: Sheet,
+        prices: Mapping[str, Fraction | None],
+        words: Reading,
     ) -> None:
         self.prices = prices
         self.unread = set[str]()
@@ -92,9 +101,19 @@ class _Reader:
         self.table = TableReader.of(kind, sheet, AMOUNTS[kind], self.rejects.append)
         self.rows = self.table.rows
         self.names = self.rows.names
+        self.said = list[Remark]()
+        self.asked = list[Remark]()
+        self.sizes = sizes_of(self.rows, words.factors)
+        self.closed: Flags = np.zeros(len(self.rows), bool)
+        for name, closed in closed_rows(self.rows):
+            self.closed |= closed & self.rows.good
+            self._leave("closed rows", closed, column=name)
+        self.as_of = self._keep_latest() if kind == STOCK else None
+        self.asked += questions(kind, self.rows, self.sizes)
         readers = dict[str, Callable[[Cell], Any]]()
         for role, number in AMOUNTS[kind].items():
-            readers[role] = partial(self.table.amounts[role].number, kind=number)
+            if role in self.rows.columns:
+                readers[role] = partial(self.table.amounts[role].number, kind=number)
         needed = {*readers}
         if "due" in self.rows.columns:
             readers["due"] = self.table.dates.day
@@ -102,7 +121,8 @@ class _Reader:
                 self.table.name("suspicious", 0, "", [("due", "", remark)])
         if "reason" in self.rows.columns:
             readers["reason"] = reason_of
-        self.reader = RowReader(readers, needed, factors_of(sheet.columns, every))
+        factors = factors_of(sheet.columns, words.every)
+        self.reader = RowReader(readers, needed, factors)
 
     def is_of(self, sheet: Sheet) -> bool:
         """Returns whether a table is in the same files as the one that was read, and nobody has changed these since."""
@@ -117,7 +137,77 @@ class _Reader:
         values, faults = self.reader.read(cells)
         if not faults:
             faults = [*self._judged(row, values)]
+        if not faults:
+            values |= self._in_items(row, values)
         return values, faults
+
+    def _in_items(self, row: int, values: Mapping[str, Any]) -> dict[str, Any]:
+        """Returns the amounts of a row in items, by its unit of measure; of open orders with what is still to come: if no
+        column says that, what is ordered less what is received and cancelled."""
+        size = values.get("factor")
+        if size is None:
+            size = self.sizes[text_of(self.rows.cell("measure", row))]
+        items = dict[str, Any]()
+        for role in AMOUNTS[self.table.kind].keys() & values.keys():
+            column = self.rows.sheet.columns[role]
+            items[role] = values[role] * (1 if column.unit_said else size)
+        if "ordered" in items and "quantity" not in items:
+            less = items.get("received", NONE) + items.get("cancelled", NONE)
+            items["quantity"] = max(items["ordered"] - less, NONE)
+        if self.table.kind == ON_ORDER:
+            items["filed"] = self._filed(row, items, size)
+        return items
+
+    def _filed(
+        self, row: int, items: Mapping[str, Any], size: Fraction | int
+    ) -> Fraction:
+        """Returns how many items were ordered in a row of open orders; what is still to come if no cell says it."""
+        ordered: Fraction = items.get("ordered", items["quantity"])
+        for name, mark in self.rows.sheet.marks.items():
+            if mark.use == ORDERED:
+                number = self.table.amounts["quantity"].known(self.rows.cell(name, row))
+                return ordered if number is None else number * size
+        return ordered
+
+    def _leave(self, code: str, others: Flags, **facts: Value) -> None:
+        """Leaves rows out, and says so."""
+        count = np.count_nonzero(others & self.rows.good)
+        if count:
+            self.table.leave(others)
+            file = self.rows.sheet.file_name
+            self.said.append(Remark(code, {"file": file, "rows": count, **facts}))
+
+    def _keep_latest(self) -> Day | None:
+        """Returns the last day of a stock, if a column says days, and leaves out the rows of earlier ones: of a table
+        that has items again on several days, and at least half of them on the last. If no item has two days in a
+        place, they are those of a count, and all rows are used. Else it asks, and so it does for what is no day.
+        """
+        rows = self.rows
+        good, marks = rows.good, rows.sheet.marks
+        if "date" not in rows.columns or not good.any():
+            return None
+        column, values = rows.sheet.columns["date"], rows.counts("date")
+        days = self.table.read_days("date")
+        last = days.max(where=good, initial=0)
+        day = Day.fromordinal(int(last)) if last else None
+        places = [rows.columns[it].codes for it in marks if marks[it].use == PLACE]
+        _, stocks = np.unique(
+            np.stack([rows.items, *places])[:, good], axis=1, return_inverse=True
+        )
+        pairs = np.unique(np.stack([stocks.ravel(), days[good]]), axis=1)
+        is_known = (days[good] > 0).all()
+        is_once = pairs.shape[1] == stocks.max() + 1
+        if len(values) == 1 or f"={column.name}" in marks or is_known and is_once:
+            return day
+        named = {*rows.items[good].tolist()}
+        on_last = {*rows.items[good & (days == last)].tolist()}
+        if is_known and 2 * len(on_last) >= len(named):
+            others = len(named - on_last)
+            self._leave("earlier stock", days < last, day=str(day), items=others)
+        else:
+            asked = question("unknown days", STOCK, column.name, values, {*values})
+            self.asked.append(asked)
+        return day
 
     def _judged(self, row: int, values: Mapping[str, Any]) -> Iterator[CellFault]:
         """Yields what is wrong with the values of a row, each of which can be read."""
@@ -137,10 +227,24 @@ class _Reader:
         return dict(self.items())
 
     @cached_property
+    def filed(self) -> dict[str, list[Fraction]]:
+        """Returns what was ordered in each row of open orders, by item, also in closed ones."""
+        read = [(name, values) for name, rows in self.found.items() for values in rows]
+        for row in np.flatnonzero(self.closed).tolist():
+            values, faults = self._read(row)
+            read += [] if faults else [(self.names[self.rows.items[row]], values)]
+        filed = defaultdict[str, list[Fraction]](list)
+        for name, values in read:
+            filed[name].append(values["filed"])
+        return dict(filed)
+
+    @cached_property
     def hands(self) -> dict[str, OnHand]:
         """Returns what items have by a table of stock."""
         return {
-            name: reduce(add, [OnHand.of(row["stock"], row["owed"]) for row in rows])
+            name: reduce(
+                add, [OnHand.of(row["stock"], row.get("owed", NONE)) for row in rows]
+            )
             for name, rows in self.found.items()
         }
 
@@ -148,13 +252,14 @@ class _Reader:
     def controls(self) -> Controls:
         """Returns what the rows come to, by file and by what became of them."""
         controls = controls_of(
-            self.table, lambda item: self.prices.get(self.names[item]), {}
+            self.table, lambda item: self.prices.get(self.names[item]), self.sizes
         )
         return together([no_rows(self.table.kind, self.rows.sheet), controls])
 
     def remarks(self) -> Iterator[Remark]:
         """Yields what is to be said of the rows: over which places items are summed, and states of rows."""
         yield from said_of_marks(self.table.kind, self.rows, split_items(self.rows))
+        yield from self.said
 
     def items(self) -> Iterator[tuple[str, list[dict[str, Any]]]]:
         """Yields the items of the plan with the values of their rows, but for those with a row that can't be read."""
@@ -223,7 +328,7 @@ class _QuantityReader(_Reader):
 
 def read_holdings(
     tables: Mapping[str, Table | None],
-    words: Words,
+    words: Reading,
     prices: Mapping[str, Fraction | None],
     packs: Mapping[str, int] = MappingProxyType({}),
     known: dict[str, _Reader] | None = None,
@@ -237,34 +342,44 @@ def read_holdings(
     readers = dict[str, _Reader]()
     with open_tables(tables, words) as sheets:
         for kind, sheet in sheets.items():
-            given = kind, sheet, prices, words.every
+            given = kind, sheet, prices, words
             if kind in known and known[kind].is_of(sheet):
                 readers[kind] = known[kind]
             elif kind == QUANTITIES:
                 readers[kind] = _QuantityReader(packs, *given)
             else:
                 readers[kind] = _Reader(*given)
-    on_hand: Mapping[str, OnHand] | None = None
+    _check_asked(readers.values())
+    stock, on_order = readers.get(STOCK), readers.get(ON_ORDER)
     arrivals = defaultdict[str, list[Arrival]](list)
     quantities = dict[str, Quantity]()
     for kind, reader in readers.items():
         if isinstance(reader, _QuantityReader):
             quantities = reader.quantities()
-            continue
-        if kind == STOCK:
-            on_hand = reader.hands
-            continue
-        for name, rows in reader.found.items():
-            arrivals[name] += [Arrival(row["quantity"], row.get("due")) for row in rows]
+        for name, rows in reader.found.items() if kind in TO_COME else ():
+            lines = [row for row in rows if row["quantity"]]
+            arrivals[name] += [Arrival(it["quantity"], it.get("due")) for it in lines]
     known.clear()
     known |= {kind: readers[kind] for kind in EXPORTED if kind in readers}
     return Holdings(
-        on_hand,
-        dict(arrivals),
+        stock.hands if stock else None,
+        {name: lines for name, lines in arrivals.items() if lines},
         quantities,
         frozenset().union(*(reader.unread for reader in readers.values())),
         *_said_by(readers.values()),
+        stock.as_of if stock else None,
+        on_order.filed if on_order else {},
     )
+
+
+def _check_asked(readers: Iterable[_Reader]) -> None:
+    """Raises RefusedFaults with all that must be asked of the tables."""
+    faults = list[Fault]()
+    for reader in readers:
+        sheet = reader.rows.sheet
+        faults += [Fault(remark, sheet.name, sheet.line) for remark in reader.asked]
+    if faults:
+        raise RefusedFaults(faults)
 
 
 def _said_by(

@@ -1,12 +1,13 @@
 """Gives items that succeed others the demand of these, as masters state it: that of a chain of items, each period's.
 
-A successor has the history of its predecessor before its own; in periods of both, the demand of both. The predecessor is
-phased out. A chain that leads back to an item, two successors of one item, and a predecessor that is stated to be active
+A successor has the history of its predecessors before its own; in periods of several, the demand of all. A predecessor is
+phased out. Either of both may state it, or both. A chain that leads back to an item, two successors of one item, and a predecessor that is stated to be active
 are refused, since the demand of an item would count twice.
 """
 from __future__ import annotations
 
-from collections.abc import Callable, Iterator, Mapping
+import itertools
+from collections.abc import Callable, Iterable, Mapping
 from dataclasses import replace
 
 from ..errors import Refused
@@ -14,10 +15,12 @@ from ..remarks import Remark, Value
 from ..words import message
 from .dates import period_name
 from .item import PHASE_OUT, STOPPED, Item, some
-from .items import Words
-from .status import ACTIVE, past_of
+from .items import Reading
+from .quiet import QUIET, quiet_remark
+from .status import ACTIVE, BY_TEST, past_of
 
 Find = Callable[[str], Item | None]
+Pair = tuple[str, str]  # an item and the one that succeeds it
 
 
 def summed(item: Item, old: Item) -> Item:
@@ -51,73 +54,70 @@ def summed(item: Item, old: Item) -> Item:
     )
 
 
-def check_chains(predecessors: Mapping[str, str]) -> None:
-    """Raises Refused for a chain of items that leads back to one of them, and for an item with two successors."""
-    for name in predecessors:
-        chain = [name]
-        while (old := predecessors.get(chain[-1])) is not None:
-            chain.append(old)
-            if old in chain[:-1]:
-                raise refused("successors in a circle", items=" > ".join(chain))
-    successors = dict[str, list[str]]()
-    for name, old in predecessors.items():
-        successors.setdefault(old, []).append(name)
-    for old, names in successors.items():
-        if len(names) > 1:
-            several = " and ".join(sorted(names))
-            raise refused("two successors", item=old, items=several)
+def chain_of(name: str, successors: Mapping[str, str]) -> list[str]:
+    """Returns an item and those that succeed it, one behind the other. Raises Refused for a chain that leads back."""
+    chain = [name]
+    while (heir := successors.get(chain[-1])) is not None:
+        chain.append(heir)
+        if heir in chain[:-1]:
+            items = " > ".join(reversed(chain))
+            raise refused("successors in a circle", items=items)
+    return chain
+
+
+def successors_in(pairs: Iterable[Pair]) -> dict[str, str]:
+    """Returns the successor of each item that has one, each item behind those that it succeeds. Raises Refused for chains
+    that lead back to an item, and for an item with two successors."""
+    distinct = sorted({*pairs})
+    successors = dict(distinct)
+    chains = {old: chain_of(old, successors) for old in successors}
+    for (old, first), (other, second) in itertools.pairwise(distinct):
+        if old == other:
+            raise refused("two successors", item=old, items=f"{first} and {second}")
+    longest_first = sorted(successors, key=lambda old: -len(chains[old]))
+    return {old: successors[old] for old in longest_first}
 
 
 def refused(code: str, **facts: Value) -> Refused:
     return Refused(message(Remark(code, facts)))
 
 
-def oldest_first(predecessors: Mapping[str, str]) -> Iterator[str]:
-    """Yields items that succeed others, each behind its predecessor."""
-    done = set[str]()
-    for name in predecessors:
-        chain = [name]
-        while chain[-1] in predecessors and predecessors[chain[-1]] not in done:
-            chain.append(predecessors[chain[-1]])
-        for link in reversed(chain):
-            if link in predecessors and link not in done:
-                yield link
-        done.update(chain)
-
-
-def succeeded(
-    predecessors: Mapping[str, str], find: Find, words: Words
-) -> dict[str, Item]:
+def succeeded(pairs: Iterable[Pair], find: Find, words: Reading) -> dict[str, Item]:
     """Returns the items that change: those that succeed another one, and these. `find` gives an item that was read, or
     None. Raises Refused."""
-    check_chains(predecessors)
     changed = dict[str, Item]()
-    for name in oldest_first(predecessors):
-        item = changed.get(name) or find(name)
-        old = changed.get(predecessors[name]) or find(predecessors[name])
-        assert item is not None
+    for name, new in successors_in(pairs).items():
+        old, item = (changed.get(each) or find(each) for each in (name, new))
         if old is None:
-            unknown = Remark("unknown predecessor", {"item": predecessors[name]})
-            changed[name] = with_remark(item, unknown)
+            assert item is not None
+            unknown = Remark("unknown predecessor", {"item": name})
+            changed[new] = with_remark(item, unknown)
+            continue
+        ended = old if old.status == STOPPED else replace(old, past=PHASE_OUT)
+        code = "unknown successor" if item is None else "succeeded"
+        changed[name] = with_remark(ended, Remark(code, {"item": new}))
+        if item is None:
             continue
         if old.status == ACTIVE:
-            raise refused("active predecessor", item=old.name, successor=name)
-        changed[name] = heir(item, old, words)
-        ended = old if old.status == STOPPED else replace(old, past=PHASE_OUT)
-        changed[old.name] = with_remark(ended, Remark("succeeded", {"item": name}))
+            raise refused("active predecessor", item=name, successor=new)
+        changed[new] = heir(item, old, words)
     return changed
 
 
-def heir(item: Item, old: Item, words: Words) -> Item:
+def heir(item: Item, old: Item, words: Reading) -> Item:
     """Returns an item that succeeds another one, with its demand."""
     joint = summed(item, old)
-    known, has_law = joint.known.counts, item.law is not None
-    past = past_of(item.status, known, words.least, words.every, False, has_law)
+    known, by_test = joint.known.counts, words.stopped == BY_TEST
+    has_law = item.law is not None
+    past = past_of(item.status, known, words.least, words.every, by_test, has_law)
     first = period_name(old.first, words.every)
-    remark = Remark(
-        "successor", {"item": old.name, "items": sum(old.known.counts), "first": first}
-    )
-    return with_remark(replace(joint, past=past), remark)
+    remarks = [remark for remark in item.remarks if remark.code != QUIET]
+    facts: dict[str, Value] = {"items": sum(old.known.counts), "first": first}
+    remarks.append(Remark("successor", {"item": old.name, **facts}))
+    joint = replace(joint, past=past, remarks=tuple(remarks))
+    if past == STOPPED and item.status != STOPPED:
+        joint = with_remark(joint, quiet_remark(joint, words.every))
+    return joint
 
 
 def with_remark(item: Item, remark: Remark) -> Item:

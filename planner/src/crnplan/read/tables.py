@@ -93,7 +93,7 @@ class TableReader:
         """Reads all rows of a table that decides alone how its dates and amounts, which these roles have, are read."""
         rows = rows_of(sheet)
         readers = {role: amount_reader(rows, role) for role in amounts}
-        return cls(kind, rows, date_reader(rows), readers, add)
+        return cls(kind, rows, date_reader(rows, readers), readers, add)
 
     def read_whole(self, role: str, read: Callable[[Cell], int]) -> Numbers:
         """Returns the number that a function reads in each row's cell of a column, 0 of one that has none."""
@@ -189,6 +189,11 @@ class TableReader:
         name = str(self.rows.cell("item", row)) if item is None else item
         rows = int(self.kind == "demand")
         self.name("row", int(self.rows.lines[row]), name, faults, rows)
+
+    def leave(self, others: Flags) -> None:
+        """Leaves good rows out that are others than are wanted."""
+        self.states[others & self.rows.good] = PLACES[OTHER]
+        self.rows.good &= ~others
 
     def close(self, became: States) -> None:
         """Gives each row of which nothing is said yet the state of its item, by the code of this."""

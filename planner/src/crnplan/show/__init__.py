@@ -1,1 +1,1 @@
-"""Shows figures to a person: tables as text, and pictures by matplotlib."""
+"""Shows figures to a person: tables, texts, pages, pictures and workbooks."""

@@ -71,7 +71,7 @@ def spread_plot(tests: Sequence[Backtest]) -> Plot:
     return Plot(
         title="Items by what they met at once, less what was promised",
         description=f"{sum(counts):,} items, of which {met:,} met at least what was promised.",
-        scale=scale,
+        heights=scale.heights,
         marks=across.marks,
         across="points above the promise; the ends have all beyond",
         lines=[],
@@ -103,7 +103,7 @@ def curve_plot(tests: Sequence[Backtest], promised: float) -> Plot:
         said.append(f"{name}: {least:.1f}% with {low:.0f}, {most:.1f}% with {high:.0f}")
     every = [point for points in curves.values() for point in points]
     across = Scale.of([min(MOST_STOCK, max((x for x, _ in every), default=0.0))])
-    up = Scale.between(min([LEAST_END, *(y for _, y in every)]), 100.0)
+    up = Scale.between(min([LEAST_END, *(y for _, y in every)]), 100.0, sign="%")
     lines = [Line(f"promised: {percent(promised)}", PROMISED, up.level(100 * promised))]
     for code, points in curves.items():
         shown = [(x, y) for x, y in points if x <= across.high]
@@ -112,7 +112,7 @@ def curve_plot(tests: Sequence[Backtest], promised: float) -> Plot:
     return Plot(
         title="Demand met at once by stock, over the aims of each method",
         description=f"Stock in percent of the kept plan's. {'; '.join(said)}.",
-        scale=up,
+        heights=up.heights,
         marks=across.marks,
         across="mean stock in money, in percent of the kept plan's",
         lines=lines,
@@ -128,7 +128,7 @@ def time_plot(tests: Sequence[Backtest], promised: float, every: str) -> Plot:
             continue
         shares[policy] = (100 - 100 * group.unmet(policy).by_block).tolist()
     least = min(min(own) for own in shares.values())
-    scale = Scale.between(min(100 * promised - 1, least), 100.0)
+    scale = Scale.between(min(100 * promised - 1, least), 100.0, sign="%")
     level = scale.level(100 * promised)
     lines = [Line(f"promised: {percent(promised)}", PROMISED, level)]
     said = []
@@ -141,7 +141,7 @@ def time_plot(tests: Sequence[Backtest], promised: float, every: str) -> Plot:
     return Plot(
         title="Demand met at once, in time",
         description=f"{count} blocks of {BLOCK} {every}s; {'; '.join(said)}.",
-        scale=scale,
+        heights=scale.heights,
         marks=marks_of([str(BLOCK * place) for place in range(1, count + 1)]),
         across=f"{every}s after the record",
         lines=lines,
@@ -183,12 +183,6 @@ def summed_of(tested: Tested) -> Tests:
         for item, test in tested.items
         if isinstance(test, Backtest) and summed(test)
     ]
-
-
-def named_curves(tested: Tested) -> dict[str, list[tuple[float, float]]]:
-    """Returns the curves of methods by their names: see `method_curves`."""
-    curves = method_curves([test for _, test in summed_of(tested)])
-    return {METHOD_WORDS[code].name: points for code, points in curves.items()}
 
 
 def backtest_page(tested: Tested) -> str:

@@ -2,8 +2,8 @@
 from __future__ import annotations
 
 import dataclasses
-from collections.abc import Callable, Iterator, Sequence
-from typing import Any, NamedTuple
+from collections.abc import Collection, Sequence
+from typing import NamedTuple
 
 from ..plan.backtest.catalogue import Past, Tested
 from ..plan.backtest.one import Backtest
@@ -53,42 +53,6 @@ class Row(NamedTuple):
         return None
 
 
-def _method_columns(
-    code: str, is_promising: bool = True, is_changing: bool = False
-) -> Iterator[Column]:
-    """Yields the columns of a method: what it promised if it does, and how its levels change if they do."""
-    lacking = set[str]()
-    if not is_promising:
-        lacking |= {f"promised_{code}", f"promised_fill_{code}"}
-    if not is_changing:
-        lacking.add(f"changes_{code}")
-    for column in columns_of(
-        "show", "backtest_policy", policy=code, words=METHOD_WORDS[code].meaning
-    ):
-        if column.name not in lacking:
-            yield column
-
-
-def _backtest_columns() -> Iterator[Column]:
-    yield from columns_of("show", "backtest")
-    for method in METHODS:
-        yield from _method_columns(method.code, method.is_promising, method.is_changing)
-    yield from _method_columns(SHUFFLED)
-    yield from columns_of("show", "backtest_end")
-
-
-def _met_by(code: str) -> Callable[[Sums], float | None]:
-    """Returns a function that returns the share of demand that a method met at once."""
-
-    def met(sums: Sums) -> float | None:
-        unmet = sums.unmet.get(code)
-        if unmet:
-            return 1 - unmet.value
-        return None
-
-    return met
-
-
 def verdict_of(sums: Sums) -> str:
     return past_said(sums.verdict)
 
@@ -97,27 +61,36 @@ def best_of(sums: Sums) -> str | None:
     return sums.best and METHOD_WORDS[sums.best].name
 
 
-def _sum_columns() -> Iterator[Column]:
-    yield from columns_of(
-        "show", "backtest_sums", {"verdict": verdict_of, "best": best_of}
-    )
-    for method in METHODS:
-        code = method.code
-        words: dict[str, Any] = {"policy": code, "words": METHOD_WORDS[code].meaning}
-        yield from columns_of(
-            "show", "backtest_fill", {"fill_{policy}": _met_by(code)}, **words
-        )
-        if code != KEPT:
-            yield from columns_of("show", "backtest_beside", **words)
-        yield from columns_of("show", "backtest_orders", **words)
-        if method.is_changing:
-            yield from columns_of("show", "backtest_changes", **words)
-    yield from columns_of("show", "backtest_missed")
-    yield from columns_of("show", "backtest_counts", slack=f"{100 * SLACK:g}")
+CODES = [method.code for method in METHODS]
+CELLS = {"verdict": verdict_of, "best": best_of}
+# Columns that methods lack whose levels don't change, or that promise nothing; and the kept plan, beside itself.
+UNCHANGED = {f"changes_{method.code}" for method in METHODS if not method.is_changing}
+UNPROMISED = {
+    f"{promised}_{method.code}"
+    for method in METHODS
+    for promised in ("promised", "promised_fill")
+    if not method.is_promising
+}
+BESIDE_ITSELF = {
+    f"{figure}_{KEPT}{end}"
+    for figure in "gained stock cost equal_fill equal_stock equal_spent".split()
+    for end in ("", "_error")
+}
 
 
-BACKTEST_COLUMNS = (*_backtest_columns(),)
-SUM_COLUMNS = (*_sum_columns(),)
+def _columns(
+    table: str, codes: Sequence[str], lacking: Collection[str]
+) -> tuple[Column, ...]:
+    """Returns the columns of a table with those of each method, without some."""
+    each = [{"policy": code, "words": METHOD_WORDS[code].meaning} for code in codes]
+    columns = columns_of("show", table, CELLS, each, slack=f"{100 * SLACK:g}")
+    return tuple(column for column in columns if column.name not in lacking)
+
+
+BACKTEST_COLUMNS = _columns(
+    "backtest", [*CODES, SHUFFLED], UNCHANGED | UNPROMISED | {f"changes_{SHUFFLED}"}
+)
+SUM_COLUMNS = _columns("backtest_sums", CODES, UNCHANGED | BESIDE_ITSELF)
 
 
 def backtest_of(tested: Tested) -> DataTable:

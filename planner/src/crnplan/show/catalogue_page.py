@@ -38,28 +38,29 @@ from .calendars import LEVELS, item_months, levels_of
 from .catalogue_tables import (
     DECISION_COLUMNS,
     DECISIONS,
-    EXACT,
+    DETAILS,
     REJECTS,
     Decision,
     catalogue_summary,
     decisions_of,
-    exact_of,
+    details_of,
     reasons_of,
     rejects_of,
 )
 from .change_tables import CHANGES, change_lines, changes_of, moved_rows
 from ..columns import declared
 from .control_tables import controls_of
-from .curves import MARKERS, CurvePicture
-from .item_page import ItemWords, item_page
+from .curves import exchange_plot
+from .item_page import ItemWords, item_page, scenario_text
 from .lateness import LATENESS, lateness_of
 from .promise_tables import aims_of, costs_of, together_of
-from .page import OF_CHOSEN, Line, Money, Plot, Scale, path_of, percent, rendered
+from .page import Money, Scale, rendered
 from .today_tables import OrdersToday, orders_by_masters
 from .verdicts import VERDICTS
 
 SUMMARY, PAGE, FOUND = "summary.txt", "report.html", "found.toml"
-CATALOGUE_FILES = (DECISIONS, EXACT, REJECTS, SUMMARY, PAGE, FOUND)
+SCENARIO = "scenario.toml"  # of the run of a plan's only item
+CATALOGUE_FILES = (DECISIONS, DETAILS, REJECTS, SUMMARY, PAGE, FOUND)
 ITEMS = "items"  # the folder of their pages
 MOST_ROWS = 5_000  # items in the table
 ROWS_AT_ONCE = 100  # of the tables that are written side by side
@@ -115,10 +116,8 @@ class ItemColumn(NamedTuple):
         return self._replace(heading=self.title, width=PADDING + max(widths))
 
 
-ITEM_COLUMNS = [
-    ItemColumn(name, **traits)
-    for name, traits in declared("show/words.toml")["items"].items()
-]
+TRAITS = declared("show/words.toml")["items"]
+ITEM_COLUMNS = [ItemColumn(its.name, **TRAITS[its.name]) for its in DECISION_COLUMNS]
 
 
 class Bar(NamedTuple):
@@ -130,17 +129,6 @@ class Bar(NamedTuple):
     high: float
 
 
-class NamedPoint(NamedTuple):
-    """A named point of the exchange curve: its style and form, and where it stands, in percent of the picture."""
-
-    name: str
-    figures: Point
-    css: str
-    form: str
-    x: float
-    y: float
-
-
 def catalogue_page(
     folder: PlannedFolder, survey: Survey, orders: OrdersToday | None = None
 ) -> str:
@@ -150,7 +138,7 @@ def catalogue_page(
     money = money_of(folder)
     rows = shown_items(survey.greatest, folder.currency.digits)
     shown_curve = curve or known_points(survey.totals, folder.settings)
-    plot, points = exchange_plot(shown_curve, money) if shown_curve else (None, [])
+    plot = exchange_plot(shown_curve, money) if shown_curve else None
     return rendered(
         "catalogue.html",
         {
@@ -165,7 +153,6 @@ def catalogue_page(
             "moved": moved_rows(folder),
             "most_reasons": MOST_REASONS,
             "plot": plot,
-            "points": points,
             "curve": curve,
             "verdicts": VERDICTS,
             **board_facts(folder, survey),
@@ -269,18 +256,6 @@ def bars_of(rows: Iterable[Shown]) -> list[Bar]:
     return bars[:MOST_SAVINGS]
 
 
-def clipped(
-    points: Sequence[tuple[float, float]], right: float, bottom: float
-) -> list[tuple[float, float]]:
-    """Returns the part of a rising curve up to a value and above a share, with the points where it crosses these. One
-    point is left of a curve that lies elsewhere."""
-    import numpy as np
-
-    values, shares = np.array(sorted(points)).T
-    places = np.unique(np.clip(values, np.interp(bottom, shares, values), right))
-    return [*zip(places.tolist(), np.interp(places, values, shares).tolist())]
-
-
 def known_points(totals: Totals, settings: Settings) -> list[tuple[str, Point]]:
     """Returns the points of the exchange curve that are known before it is drawn, without their orders and costs."""
     points = []
@@ -290,40 +265,6 @@ def known_points(totals: Totals, settings: Settings) -> list[tuple[str, Point]]:
             point = Point(*figures, math.nan, math.nan)
             points.append((said_of(name, settings), point))
     return points
-
-
-def exchange_plot(
-    curve: Sequence[tuple[str, Point]], money: Money
-) -> tuple[Plot, list[NamedPoint]]:
-    """Returns the exchange curve as a line, if it has one, and its named points."""
-    named = {name: point for name, point in curve if name}
-    shown = CurvePicture(named, money)
-    across, up = Scale.of([shown.right or 1.0]), Scale.between(shown.bottom, 100.0)
-    points, said = [], []
-    for place, (name, point) in enumerate(named.items()):
-        value, share = shown.place(point)
-        x, y = round(across.at(value) / 10, 2), round(100 - up.at(share) / 10, 2)
-        form = MARKERS[place].path
-        points.append(NamedPoint(name, point, f"point-{place}", form, x, y))
-        met = percent(point.fill, 2)
-        said.append(
-            f"{name}: {met} met at once with a stock of {money.exact(point.value)}"
-        )
-    title, lines = "Demand met at once against the value of the stock", []
-    line = [shown.place(point) for name, point in curve if not name]
-    if line:
-        title = "Exchange curve: demand met at once against the value of the stock"
-        ends = clipped(line, across.high, shown.bottom)
-        lines = [Line("", OF_CHOSEN, path_of(across, up, ends))]
-    plot = Plot(
-        title=title,
-        description=f"{'; '.join(said)}.",
-        scale=up,
-        marks=across.marks,
-        across=shown.across,
-        lines=lines,
-    )
-    return plot, points
 
 
 def file_name(name: str) -> str:
@@ -352,16 +293,16 @@ def file_of(folder: Path, name: str) -> Path:
 def tabled(
     folder: Folder, planned: PlannedFolder, answers: Iterable[Decided]
 ) -> Iterator[Decided]:
-    """Yields items with their answers, and writes them into the tables of decisions and of exact figures."""
-    nothing: list[Decided] = []
-    with folder.writing(DECISIONS) as decisions, folder.writing(EXACT) as exact:
-        decisions.writelines(decisions_of(planned, nothing).lines)
-        exact.writelines(exact_of(nothing).lines)
+    """Yields items with their answers, and writes them into the tables of decisions and of details."""
+    nothing = list[Decided]()
+    with folder.writing(DECISIONS) as decisions, folder.writing(DETAILS) as details:
+        tables = (decisions, decisions_of), (details, details_of)
+        for file, table_of in tables:
+            file.writelines(table_of(planned, nothing).lines)
         for pairs in batched(answers, ROWS_AT_ONCE):
-            decisions.writelines(
-                itertools.islice(decisions_of(planned, pairs).lines, 1, None)
-            )
-            exact.writelines(itertools.islice(exact_of(pairs).lines, 1, None))
+            for file, table_of in tables:
+                lines = table_of(planned, pairs).lines
+                file.writelines(itertools.islice(lines, 1, None))
             yield from pairs
 
 
@@ -397,19 +338,39 @@ def write_catalogue(
     return summary
 
 
+def words_on(
+    planned: PlannedFolder, name: str, program: str | Path | None
+) -> ItemWords:
+    """Returns the words on an item of a planned folder. Raises Refused if it has no page, and why."""
+    item, answer = planned.item(name)
+    question, path = planned.question(item), str(find_program(program))
+    depth = depth_of(question, answer, path)
+    return ItemWords(depth, planned.every, planned.currency)
+
+
 def write_item(
     own: Folder, planned: PlannedFolder, name: str, program: str | Path | None
 ) -> None:
-    """Writes the page of an item of a planned folder."""
-    item, answer = planned.item(name)
+    """Writes the page of an item of a planned folder, and beside it the scenario of its run."""
+    words = words_on(planned, name, program)
     own.claim(f"{ITEMS}/", in_place=True)
     (own.path / ITEMS).mkdir(exist_ok=True)
-    question, path = planned.question(item), str(find_program(program))
-    depth = depth_of(question, answer, path)
-    own.write(
-        f"{ITEMS}/{file_name(name)}",
-        item_page(ItemWords(depth, planned.every, planned.currency)),
-    )
+    page = Path(ITEMS, file_name(name))
+    own.write(str(page), item_page(words))
+    own.write(str(page.with_suffix(".toml")), scenario_text(words))
+
+
+def write_scenario(own: Folder, program: str | Path | None) -> None:
+    """Writes the scenario of the run of a planned folder's item, if it has one alone that crnsim runs."""
+    own.remove(SCENARIO)
+    with planned_folder(own.path) as planned:
+        answers = [*itertools.islice(planned.answers(), 2)]
+        if len(answers) > 1:
+            return
+        for item, answer in answers:
+            if isinstance(answer, Answer) and answer.run:
+                words = words_on(planned, item.name, program)
+                own.write(SCENARIO, scenario_text(words))
 
 
 @judged("page", "common", "call")

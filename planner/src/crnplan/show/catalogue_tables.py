@@ -1,15 +1,14 @@
-"""The tables of a planned catalogue (decisions, exact figures, what was left out), and its summary as a text."""
+"""The tables of a planned catalogue (decisions, details, what was left out), and its summary as a text."""
 from __future__ import annotations
 
 from collections.abc import Iterable, Iterator, Mapping, Sequence
 from dataclasses import dataclass, field
 from fractions import Fraction
 from functools import cached_property
-from typing import TYPE_CHECKING, Any, NamedTuple
+from typing import TYPE_CHECKING, Any
 
-from ..plan.answer import CHOSEN, RUN, THEORY, TODAY, Answer, Figures, Run
+from ..plan.answer import CHOSEN, RUN, THEORY, TODAY, Answer, Figures
 from ..read.catalogue_reading import defaulted
-from ..read.classes import xyz_of
 from ..read.item import NO_DEMAND, UNORDERED, Item
 from ..read.items import OUTSIDE, Reject
 from ..read.lateness import receipt_remarks
@@ -27,7 +26,7 @@ if TYPE_CHECKING:
     from ..plan.totals import Totals
     from ..read.items import FileCounts
 
-DECISIONS, EXACT, REJECTS = "decisions.csv", "exact.csv", "rejects.csv"
+DECISIONS, DETAILS, REJECTS = "decisions.csv", "details.csv", "rejects.csv"
 UNREAD_ROWS, READ_ROWS = (
     "unread",
     "read",
@@ -36,6 +35,8 @@ AS_READ = frozenset(
     (*OUTSIDE, "total", "twin", "twins", "before order", "lead range")
 )  # codes of the latter
 PLANNED_BY = {THEORY: "theory", RUN: "crnsim"}
+# A share of rows or items: if more of them are left out, a command ends with status 1, and a call warns.
+MOST_LOST = 0.5
 
 
 def codes_of(remarks: Iterable[Remark]) -> str:
@@ -120,12 +121,6 @@ class Decision:
         return None
 
     @property
-    def xyz(self) -> str | None:
-        if self.answer:
-            return xyz_of(self.item.known.counts)
-        return None
-
-    @property
     def codes(self) -> str:
         return codes_of(self.remarks)
 
@@ -166,62 +161,6 @@ class Decision:
         }
 
 
-class ExactRow(NamedTuple):
-    """The run of an item that is planned: levels in boxes, and money of a period as fractions."""
-
-    item: Item
-    answer: Answer
-    run: Run
-
-    @property
-    def today(self) -> Mapping[str, int]:
-        return self._boxes(self.item.levels)
-
-    @property
-    def chosen(self) -> Mapping[str, int]:
-        return self._boxes(self.answer.chosen.levels)
-
-    def _boxes(self, levels: tuple[int, int] | None) -> Mapping[str, int]:
-        """Returns s and S in boxes, as they were run."""
-        if levels is None:
-            return {}
-        point, level = levels
-        return {"s": round(point / self.item.box), "S": round(level / self.item.box)}
-
-    @property
-    def cost_today(self) -> Fraction | None:
-        return self._cost(self.run.total_today)
-
-    @property
-    def cost_chosen(self) -> Fraction | None:
-        return self._cost(self.run.total_chosen)
-
-    def _cost(self, total: int | None) -> Fraction | None:
-        """Returns what a period costs by the cost of all replications, in the program's units."""
-        if total is None:
-            return None
-        return total / (self.run.replications * self._units)
-
-    @property
-    def saving(self) -> Fraction | None:
-        difference = self.run.difference
-        if difference is None:
-            return None
-        return -difference / self._units
-
-    @property
-    def variance(self) -> Fraction | None:
-        variance = self.run.variance
-        if variance is None:
-            return None
-        return variance / self._units**2
-
-    @property
-    def _units(self) -> Fraction:
-        """Returns the program's units of a replication that are one of money a period."""
-        return self.run.periods * self.run.scale
-
-
 def line_of(reject: Reject) -> int | None:
     return reject.line or None
 
@@ -235,7 +174,7 @@ def advice_of(reject: Reject) -> str:
 
 
 DECISION_COLUMNS = columns_of("show", "decisions")
-EXACT_COLUMNS = columns_of("show", "exact")
+DETAIL_COLUMNS = columns_of("show", "details")
 REJECT_COLUMNS = columns_of(
     "show", "rejects", {"line": line_of, "reason": reason_of, "advice": advice_of}
 )
@@ -254,14 +193,9 @@ def decisions_of(folder: PlannedFolder, answers: Iterable[Decided]) -> DataTable
     return folder.table(DECISION_COLUMNS, decided(answers))
 
 
-def exact_of(answers: Iterable[Decided]) -> DataTable:
-    """Returns the exact figures of the runs of the items that are planned, of those that have one."""
-    planned = (
-        ExactRow(item, answer, answer.run)
-        for item, answer in answers
-        if isinstance(answer, Answer) and answer.run
-    )
-    return DataTable.of(EXACT_COLUMNS, planned, missing="")
+def details_of(folder: PlannedFolder, answers: Iterable[Decided]) -> DataTable:
+    """Returns all else on the items that have decisions, in their order."""
+    return folder.table(DETAIL_COLUMNS, decided(answers))
 
 
 def was_read(remark: Remark) -> bool:
@@ -361,13 +295,31 @@ def counted_rows(files: Mapping[str, FileCounts]) -> Iterator[str]:
 
 
 def hardly_read(files: Mapping[str, FileCounts]) -> Iterator[str]:
-    """Yields a line for each file of which more than half of the rows were rejected, or no row is used."""
+    """Yields a line for each file of which more than MOST_LOST of the rows were rejected, or no row is used."""
     for counts in files.values():
         read, rejected = counts["read"], counts["rejected"]
-        if 2 * rejected > read:
+        if rejected > MOST_LOST * read:
             yield f"{counts['name']}: {rejected:,} of {read:,} rows were rejected, more than half"
         elif read and not counts["used"]:
             yield f"{counts['name']}: none of {counted(read, 'row')} is used"
+
+
+def planned_of(items: Mapping[str, int]) -> int:
+    """Returns how many of the items that were read have a plan."""
+    counts = (items.get(past.replace(" ", "_"), 0) for past in UNORDERED)
+    return items["ready"] - sum(counts)
+
+
+def hardly_planned(items: Mapping[str, int]) -> Iterator[str]:
+    """Yields a line if more than MOST_LOST of the items that would be planned are left out. These are in masters, have
+    demand or a law, and no status or record ends them. Without any such item all that are left out count.
+    """
+    lost = items.get("lost", 0)
+    asked = lost + planned_of(items)
+    if not asked:
+        lost = asked = items["left_out"]
+    if lost > MOST_LOST * asked:
+        yield f"{lost:,} of {asked:,} items to plan were left out, more than half"
 
 
 def catalogue_summary(

@@ -22,14 +22,6 @@ class ChangeRow(NamedTuple):
     change: Change
 
     @property
-    def gain_share(self) -> float | None:
-        """Returns what the change gains as a share of what the earlier policy costs."""
-        before, gain = self.change.before, self.change.gain
-        if before and before.cost and gain is not None:
-            return gain / before.cost
-        return None
-
-    @property
     def periods_since(self) -> int | None:
         since = self.change.since
         if since:

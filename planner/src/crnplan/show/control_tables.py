@@ -21,7 +21,7 @@ MEANINGS = {
     OPEN: "lost",
 }
 CONTROL_COLUMNS = columns_of("show", "controls")
-OPTIONAL = "returned", "owed"
+OPTIONAL = "returned", "owed", "unread"
 States = Mapping[str, Control]  # what rows come to, by what became of them
 
 
@@ -39,6 +39,11 @@ class Row(NamedTuple):
         for role in SUMMED[self.kind][:1]:
             return self.control.amounts.get(role)
         return None
+
+    @property
+    def unread(self) -> int | None:
+        """Returns how many rows have an amount that can't be read; None if all can."""
+        return self.control.unread or None
 
 
 def controls_of(controls: Controls, decimals: int, currency: str) -> DataTable:

@@ -1,11 +1,20 @@
 """Describes the exchange curve once, for its pictures on a page, in a file and in a workbook."""
 from __future__ import annotations
 
-from collections.abc import Iterable, Mapping
+from collections.abc import Iterable, Sequence
 from typing import Any, NamedTuple
 
 from ..curve.parts import Point
-from .page import Money
+from .page import (
+    OF_CHOSEN,
+    Line,
+    Money,
+    NamedPoint,
+    Plot,
+    Scale,
+    path_of,
+    percent,
+)
 
 TITLE = "How much service the stock can give for its value"
 AXIS, SERVICE, LINE = (
@@ -21,26 +30,12 @@ BLUE, ORANGE, GREY, BLACK = "#08458c", "#e8862e", "#777777", "#000000"
 
 
 class Marker(NamedTuple):
-    """How a point is drawn: its colour, and its form, which differs without colour: as matplotlib names it and, of the
-    points of a curve, in pixels around the point and as a spreadsheet names it."""
+    """How a point is drawn: its colour, and its form, which differs without colour: as a spreadsheet names it, and in
+    pixels around the point."""
 
     colour: str
-    letter: str
-    is_filled: bool = True
-    form: str = ""
-    path: str = ""
-
-    @property
-    def style(self) -> dict[str, Any]:
-        """Returns the marker as matplotlib has it."""
-        face = self.colour if self.is_filled else "white"
-        return {
-            "color": self.colour,
-            "marker": self.letter,
-            "markerfacecolor": face,
-            "markeredgewidth": 1.5,
-            "linestyle": "none",
-        }
+    form: str
+    path: str
 
     @property
     def of_sheet(self) -> dict[str, Any]:
@@ -51,13 +46,11 @@ class Marker(NamedTuple):
 
 # Of the named points in their order.
 MARKERS = (
-    Marker(ORANGE, "o", True, "circle", "M-6 0a6 6 0 1 0 12 0a6 6 0 1 0-12 0z"),
-    Marker(GREY, "D", False, "diamond", "M0-8 8 0 0 8-8 0z"),
-    Marker(BLUE, "^", True, "triangle", "M0-8 7.5 6-7.5 6z"),
-    Marker(BLUE, "s", True, "square", "M-6-6H6V6H-6z"),
-    Marker(
-        BLACK, "*", True, "star", "M0-9 2.5-3 9-3 4 1.5 6 8 0 4-6 8-4 1.5-9-3-2.5-3z"
-    ),
+    Marker(ORANGE, "circle", "M-6 0a6 6 0 1 0 12 0a6 6 0 1 0-12 0z"),
+    Marker(GREY, "diamond", "M0-8 8 0 0 8-8 0z"),
+    Marker(BLUE, "triangle", "M0-8 7.5 6-7.5 6z"),
+    Marker(BLUE, "square", "M-6-6H6V6H-6z"),
+    Marker(BLACK, "star", "M0-9 2.5-3 9-3 4 1.5 6 8 0 4-6 8-4 1.5-9-3-2.5-3z"),
 )
 
 
@@ -70,16 +63,50 @@ def curve_ends(named: Iterable[Point]) -> tuple[float, float]:
     return ROOM * most, max(0.0, 100 * least - BELOW)
 
 
-class CurvePicture:
-    """What a picture of an exchange curve shows: the value of stock up to `right`, in a `unit` of money, against service
-    in percent from `bottom` on."""
+def clipped(
+    points: Sequence[tuple[float, float]], right: float, bottom: float
+) -> list[tuple[float, float]]:
+    """Returns the part of a rising curve up to a value and above a share, with the points where it crosses these. One
+    point is left of a curve that lies elsewhere."""
+    import numpy as np
 
-    def __init__(self, named: Mapping[str, Point], money: Money) -> None:
-        end, self.bottom = curve_ends(named.values())
-        self.unit = money.unit([end])
-        self.right = end / self.unit.size
-        self.across = money.heading(AXIS, self.unit)
+    values, shares = np.array(sorted(points)).T
+    places = np.unique(np.clip(values, np.interp(bottom, shares, values), right))
+    return [*zip(places.tolist(), np.interp(places, values, shares).tolist())]
 
-    def place(self, point: Point) -> tuple[float, float]:
-        """Returns where a point stands: its value and its service."""
-        return point.value / self.unit.size, 100 * point.fill
+
+def exchange_plot(curve: Sequence[tuple[str, Point]], money: Money) -> Plot:
+    """Returns the exchange curve as a line, if it has one, and its named points: the value of stock against service in
+    percent."""
+    named = {name: point for name, point in curve if name}
+    end, bottom = curve_ends(named.values())
+    unit = money.unit([end])
+    across = Scale.of([end / unit.size or 1.0])
+    up = Scale.between(bottom, 100.0, sign="%")
+
+    def place(point: Point) -> tuple[float, float]:
+        return point.value / unit.size, 100 * point.fill
+
+    points = list[NamedPoint]()
+    for number, (name, point) in enumerate(named.items()):
+        value, share = place(point)
+        stock, met = money.exact(point.value), percent(point.fill, 2)
+        said = f"{name}: {met} met at once with a stock of {stock}"
+        x, y = round(across.at(value) / 10, 2), round(100 - up.at(share) / 10, 2)
+        form = MARKERS[number].path
+        points.append(NamedPoint(name, point, said, f"point-{number}", form, x, y))
+    title, lines = "Demand met at once against the value of the stock", []
+    line = [place(point) for name, point in curve if not name]
+    if line:
+        title = "Exchange curve: demand met at once against the value of the stock"
+        path = path_of(across, up, clipped(line, across.high, bottom))
+        lines = [Line(LINE, OF_CHOSEN, path)]
+    return Plot(
+        title=title,
+        description=f"{'; '.join(point.said for point in points)}.",
+        heights=up.heights,
+        marks=across.marks,
+        across=money.heading(AXIS, unit),
+        lines=lines,
+        points=points,
+    )

@@ -1,48 +1,38 @@
-"""Says in sentences and tables what was decided for an item, and draws its page: the same for its page, its files and a
-notebook, for `crnplan item` and for a catalogue. Amounts are items and money."""
+"""Says in sentences and tables what was decided for an item, and draws its page: the same for its page and a notebook.
+Amounts are items and money."""
 from __future__ import annotations
 
 import itertools
 import textwrap
-from collections.abc import Iterable, Sequence
+from collections.abc import Iterable
 from dataclasses import replace
 from functools import cached_property
-from pathlib import Path
 from typing import Any, NamedTuple
 
-from ..crnsim.trajectory import table_of
 from ..decide.doubt import WITHIN
 from ..decide.verdicts import POLICY
 from ..demand import EMPIRICAL
-from ..demand.checks import largest_periods
+from ..demand.checks import Checks, checks_of
 from ..demand.fitted import Figures as LawFigures, FittedLaw, fit_words
-from ..demand.seasons import months_of
-from ..errors import Fault, spelt, worded
 from ..money import Currency
 from ..plan.answer import THEORY, Figures
-from ..plan.item import Coming, Depth
+from ..plan.item import Depth
 from ..plan.question import Question
-from ..plan.settings import as_setting
 from ..read.dates import EVERY, period_name
-from ..remarks import Remark
 from ..policies import Policy
 from ..table import MONEY, DataTable
 from ..words import MONTHS, advised, exactness, sentence
-from .catalogue_tables import DECISION_COLUMNS, Decision, exact_of
-from ..columns import columns_of, declared
+from .catalogue_tables import DECISION_COLUMNS, DETAIL_COLUMNS, Decision
+from ..columns import columns_of
 from .item_plots import ALONE, history_plot, law_plot, season_plot, stock_plot
 from .law_words import law_said, law_words
 from .page import Scale, capital, number, rendered, templates
 from .verdicts import VERDICTS
 
-# The summary has so many lines of so many characters. Its table needs four: the heading, two policies, and a blank one.
-LINES, WIDTH, LEAST_TABLE = 24, 80, 4
-# The page has all warnings; in the summary each is cut to one or two lines.
-MOST_WARNED, TWO_LINES = 4, 150
-LARGE = 100_000  # From here on amounts of money in the summary have no decimals.
-# The columns of the summary's table, and those of them that are left out if a line is too long, in this order.
-SCREEN = declared("show/words.toml")["screen"]
-OPTIONAL = ("orders", "stock", "short", "run_cost", "fill")
+WIDTH = 80  # of a line of the summary, in letters, but for its table
+# The columns of its table, and how those of theory are rounded there.
+SUMMARY = "policy s S theory_cost fill short stock orders run_cost verdict".split()
+ROUNDED = {"fill": ".1%", "short": ".1%", "stock": ",.1f", "orders": ".3f"}
 MOST_DOUBTED = 10  # policies of which the page shows the doubt
 
 
@@ -57,27 +47,16 @@ class Range(NamedTuple):
 
 
 POLICY_COLUMNS = columns_of("show", "policies")
-COMING_COLUMNS = columns_of("show", "coming")
 LAW_COLUMNS = columns_of("show", "laws")
-DEMAND_COLUMNS = columns_of("show", "demand")
 
 
 class ItemWords:
-    """The words on an item. A period is a day, week, month or period (`every`); money is in a currency. `coming`
-    are the policies over coming periods, if they were asked for. `heard` is what is to be said of the files. Of an item
+    """The words on an item. A period is a day, week, month or period (`every`); money is in a currency. Of an item
     with a season what was decided is of the coming year (`whole`), and all else of its first month.
     """
 
-    def __init__(
-        self,
-        depth: Depth,
-        every: str,
-        currency: Currency,
-        coming: Coming | None = None,
-        heard: Sequence[Fault | Remark] = (),
-    ) -> None:
+    def __init__(self, depth: Depth, every: str, currency: Currency) -> None:
         self.depth, self.every, self.currency = depth, every, currency
-        self.coming, self.heard = coming, heard
         self.question, self.answer = depth.question, depth.answer
         self.whole = depth.whole
         self.item, self.settings = self.question.as_read, self.question.settings
@@ -152,10 +131,7 @@ class ItemWords:
     def month(self) -> str:
         """Returns the month of the levels of an item with a season; nothing for others."""
         season = self.question.season
-        if season is None:
-            return ""
-        (month,) = months_of(season.every, season.stretch.first, 1).tolist()
-        return MONTHS[month]
+        return MONTHS[season.month] if season else ""
 
     @property
     def horizon(self) -> str:
@@ -183,10 +159,14 @@ class ItemWords:
     def largest(self) -> str:
         """Returns which demands are the largest, and what the decision would be without them; nothing if few periods
         have demand."""
-        every, item = self.settings.every, self.item
+        return self._sentences("largest", self.checks.largest)
+
+    @cached_property
+    def checks(self) -> Checks:
+        """Returns the checks of the record."""
+        item, every = self.item, self.settings.every
         places = item.known_places
-        remarks = largest_periods(item.known.counts, every, item.first, places)
-        return self._sentences("largest", remarks)
+        return checks_of(item.known.counts, every, item.first, places=places)
 
     @property
     def said(self) -> list[str]:
@@ -214,41 +194,27 @@ class ItemWords:
         return [capital(sentence(remark)) for remark in self.answer.remarks]
 
     @property
-    def notes(self) -> list[str]:
-        """Returns what is to be said of the files and the history, and of how its law was fitted."""
-        return [*self.plain_notes, *self.statistics]
-
-    @property
     def plain_notes(self) -> list[str]:
-        """Returns what is to be said of the files, by their names without folders and with the keys of the settings for
-        arguments, and of the history."""
-        notes = []
-        with spelt(as_setting):
-            for note in self.heard:
-                if isinstance(note, Remark):
-                    notes.append(advised(note))
-                else:
-                    named = replace(note, file=Path(note.file).name)
-                    notes.append(worded(named.message))
-        notes += map(sentence, self.item.remarks)
+        """Returns what is to be said of the history, and what its checks can't see."""
+        notes = [*map(sentence, self.item.remarks)]
+        if not (self.question.is_stated or self.question.is_new):
+            notes += map(advised, self.checks.unknown)
         return [*map(capital, notes)]
 
     @property
     def statistics(self) -> list[str]:
-        """Returns how the law of demand was fitted, for statisticians; nothing if it is as it was seen."""
-        return [*map(capital, fit_words(self.question.all_year))]
+        """Returns how the laws of demand and of lead times were fitted, for statisticians; nothing of one that is as it was
+        seen."""
+        lead = self.question.lead
+        words = [*fit_words(self.question.all_year)]
+        if lead.diagnostics.side:
+            words += fit_words(lead)
+        return [*map(capital, words)]
 
     @property
     def law_said(self) -> str:
         """Returns in plain words by which law demand is planned."""
         return law_said(self.question.all_year)
-
-    @property
-    def over_coming_periods(self) -> str:
-        """Returns what the coming periods say of the policies; nothing if they were not asked for."""
-        if self.coming:
-            return self._sentences("over_coming_periods")
-        return ""
 
     @property
     def below(self) -> str:
@@ -263,35 +229,10 @@ def policies_of(words: ItemWords) -> DataTable:
     return DataTable.of(POLICY_COLUMNS, rows, words.decimals, index="policy")
 
 
-def periods_of(words: ItemWords) -> DataTable:
-    in_items = []
-    for periods in words.depth.trajectory.values():
-        in_items.append([period.times(words.item.box) for period in periods])
-    return table_of(words.depth.trajectory, in_items)
-
-
-def coming_of(words: ItemWords) -> DataTable | None:
-    """Returns the policies over the coming periods; None if they were not asked for."""
-    if words.coming is None:
-        return None
-    rows = list[dict[str, object]]()
-    for row in words.coming.rows:
-        rows.append({"row": row, "figures": words.figures[row.policy]})
-    return DataTable.of(COMING_COLUMNS, rows, words.decimals, index="policy")
-
-
-def demand_of(words: ItemWords) -> DataTable:
-    """Returns the demand by period, with an empty cell if it is not known, as a history has it."""
-    item, gaps = words.item, {*words.item.unknown}
-    counts = [None if place in gaps else n for place, n in enumerate(item.counts)]
-    amounts: list[Sequence[Any]] = [words.period_names, counts]
-    amounts += [item.returns] * bool(item.returns)
-    return DataTable(DEMAND_COLUMNS[: len(amounts)], [*zip(*amounts)], missing="")
-
-
 def laws_of(question: Question, single: FittedLaw | None) -> DataTable:
     """Returns the figures of the laws: of what was seen, and its own if a law was fitted. Below a law that is learned
-    from others stands that of the item alone, `single`, if there is one."""
+    from others stands that of the item alone, `single`, if there is one. With a season, those of demand are of the
+    month."""
     rows = list[dict[str, object]]()
 
     def add(table: str, name: str, figures: LawFigures) -> None:
@@ -302,16 +243,19 @@ def laws_of(question: Question, single: FittedLaw | None) -> DataTable:
         rows.append(row)
 
     for table, law in {
-        "demand": question.all_year,
+        "demand": question.of_month,
         "returns": question.returns,
         "lead": question.lead,
     }.items():
         if law is None:
             continue
         name, is_seen = law_words(law), law.family == EMPIRICAL
-        if law.diagnostics.seen.values:  # A new item may have no periods yet.
-            seen = name if is_seen else "what was seen"
-            add(table, seen, law.diagnostics.history)
+        seen = law.diagnostics.seen
+        if table == "demand" and question.season:
+            seen, is_seen = question.seen, False
+        if seen.values:  # A new item may have no periods yet.
+            own = name if is_seen else "what was seen"
+            add(table, own, LawFigures.of(seen, is_sample=True))
         if not is_seen:
             add(table, name, law.figures)
         if table == "demand" and single is not None:
@@ -319,57 +263,24 @@ def laws_of(question: Question, single: FittedLaw | None) -> DataTable:
     return DataTable.of(LAW_COLUMNS, rows)
 
 
-def screen_table(words: ItemWords, most: int) -> str:
-    """Returns the cheapest policies, so many with the base and the chosen one, with as many columns as fit the screen."""
-    kept = {words.depth.base, words.depth.chosen}
-    for policy in words.depth.compared:
-        if len(kept) < most:
-            kept.add(policy.name)
-    costs = [abs(policy.cost) for policy in words.depth.compared if policy.name in kept]
-    digits = 0 if max(costs) >= LARGE else min(words.decimals, 2)
-    table = policies_of(words)
-    table = replace(table, rows=[row for row in table.rows if row[0] in kept])
-    for left_out in range(len(OPTIONAL) + 1):
-        shown = table.with_columns(
-            name for name in SCREEN if name not in OPTIONAL[:left_out]
-        )
-        columns = []
-        for column in shown.columns:
-            heading, style = SCREEN[column.name]
-            if style == MONEY:
-                style = f",.{digits}f"
-            columns.append(replace(column, name=heading, shown=style))
-        lines = replace(shown, columns=columns).text
-        if max(map(len, lines.splitlines())) <= WIDTH:
-            break
-    return lines
-
-
-def wrapped(*texts: str) -> list[str]:
-    lines = []
-    for text in texts:
-        lines += textwrap.wrap(text, WIDTH, break_on_hyphens=False)
-    return lines
-
-
 def item_summary(words: ItemWords) -> str:
-    """Returns what comes of an item's plan on one screen: at most 24 lines of 80 characters."""
+    """Returns what comes of an item's plan: its policies, the cheapest first, and all that must be said of them."""
+    money = f",.{words.currency.places}f"
+    styles = ROUNDED | {"theory_cost": money, "run_cost": money}
+    table, columns = policies_of(words).with_columns(SUMMARY), []
+    for column in table.columns:
+        columns.append(replace(column, shown=styles.get(column.name, "")))
+    rows = replace(table, columns=columns).text
     warned = [f"WARNING: {warning}" for warning in words.warnings]
-    count = f" ({len(warned)} warning{'s' * (len(warned) > 1)})" if warned else ""
-    above = [*wrapped(words.headline), "", *wrapped(words.facts), ""]
-    below = wrapped(words.below, f"See summary.html and notes.txt{count}.")
-    said = wrapped(*words.said, words.over_coming_periods)
-    room = LINES - len(above) - len(below)  # for what is said and the table
+    above = wrapped(words.headline), wrapped(words.facts)
+    below = wrapped(*words.said, *warned, words.largest, words.below)
+    return "\n".join([*above, rows, below])
 
-    left = max(0, min(room - LEAST_TABLE - len(said), MOST_WARNED))
-    width = TWO_LINES if 2 * len(warned) <= left else WIDTH
-    shortened = [textwrap.shorten(line, width, placeholder=" ..") for line in warned]
-    said += wrapped(*shortened)[:left]
-    largest = wrapped(words.largest)
-    if len(largest) <= room - LEAST_TABLE - len(said):
-        said += largest
-    rows = screen_table(words, room - len(said) - 2).splitlines()
-    return "".join(f"{line}\n" for line in [*above, *rows, "", *said, *below])
+
+def wrapped(*texts: str) -> str:
+    """Returns texts as lines of the summary."""
+    lines = [textwrap.fill(text, WIDTH, break_on_hyphens=False) for text in texts]
+    return "".join(f"{line}\n" for line in lines if line)
 
 
 def item_page(words: ItemWords) -> str:
@@ -381,27 +292,23 @@ def item_facts(words: ItemWords) -> dict[str, object]:
     """Returns what the page of an item has."""
     depth, item = words.depth, words.item
     decided_of = Decision.of(item, words.whole)
-    (decision,) = DataTable.of(DECISION_COLUMNS, [decided_of], words.decimals).cells()
-    (exact,) = exact_of([(item, words.whole)]).cells()
+    columns = [*DECISION_COLUMNS, *DETAIL_COLUMNS]
+    (decision,) = DataTable.of(columns, [decided_of], words.decimals).cells()
     doubted = dict(itertools.islice(words.doubted.items(), MOST_DOUBTED))
-    regrets, decided, coming = [], [], []
+    regrets, decided = [], []
     for name, row in doubted.items():
         regrets.append(Range(name, 100 * row["regret"], 0.0, 100 * row["regret_90"]))
     for policy in depth.compared:
         ends = policy.run.low, policy.run.high
         decided.append(Range(policy.name, policy.difference, *ends, policy.verdict))
-    for compared in words.coming.rows if words.coming else ():
-        ends = compared.low, compared.high
-        coming.append(Range(compared.policy, compared.diff, *ends, compared.verdict))
     return {
         "words": words,
         "scale_of": scale_of,
         "decision": decision,
-        "exact": exact,
+        "scenario": scenario_text(words),
         "doubted": doubted,
         "regrets": regrets,
         "decided": decided,
-        "coming": coming,
         "laws": [*laws_of(words.question, depth.single).spelt(is_shown=True)],
         "history_plot": history_plot(depth, words.period_names, words.every),
         "season_plot": season_plot(depth, words.every),

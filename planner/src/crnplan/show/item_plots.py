@@ -2,7 +2,6 @@
 from __future__ import annotations
 
 import itertools
-from collections import Counter
 from collections.abc import Iterable, Sequence
 from typing import NamedTuple
 
@@ -64,30 +63,42 @@ def gaps_of(is_unknown: Sequence[bool], scale: Scale) -> str:
     return bars([scale.high * is_gap for is_gap in is_unknown], scale)
 
 
+def spanned(values: Sequence[float], digits: int) -> str:
+    """Returns the least and the greatest of some values; one number if both are shown alike."""
+    least, most = number(min(values), digits), number(max(values), digits)
+    return least if least == most else f"{least} to {most}"
+
+
 def history_plot(depth: Depth, names: Sequence[str], every: str) -> Plot:
     """Returns the demand by period as bars, of the last periods if they are many. Lines are the mean of the law, which
-    counts in boxes, and what 99 of 100 periods do not exceed by it."""
+    counts in boxes, and what 99 of 100 periods do not exceed by it: with a season, as it is in each period.
+    """
     item, figures = depth.question.as_read, depth.question.all_year.figures
-    box = item.box
+    season, factors = depth.question.season, [1.0]
+    if season and item.counts:
+        factors = season.by_period[-MOST_BARS:].tolist()
     counts, is_unknown = drawn_demand(item)
-    mean, high = box * figures.mean, box * figures.quantiles[QUANTILES[1]]
-    mean_name = f"mean of the law: {number(mean, 2)} a {every}"
-    high_name = f"99 of 100 {every}s by the law: at most {number(high)}"
+    means, highs = (
+        [item.box * level * factor for factor in factors]
+        for level in (figures.mean, figures.quantiles[QUANTILES[1]])
+    )
+    mean_name = f"mean of the law: {spanned(means, 2)} a {every}"
+    high_name = f"99 of 100 {every}s by the law: at most {spanned(highs, 0)}"
     shown, across = counts[-MOST_BARS:], every
     if len(counts) > MOST_BARS:
         across = f"{every}; the {len(counts) - MOST_BARS:,} before are not drawn"
-    scale = Scale.of([*shown, mean, high], is_whole=True)
+    scale = Scale.of([*shown, *means, *highs], is_whole=True)
     if any(is_unknown):
         across += UNKNOWN
     return Plot(
         title=f"Demand by {every}, and the law that it is planned by",
         description=f"{history_said(item, names, every)}; {mean_name}; {high_name}.",
-        scale=scale,
+        heights=scale.heights,
         marks=marks_of(names[-MOST_BARS:]) if names else [],
         across=across,
         lines=[
-            Line(mean_name, MEAN, scale.level(mean)),
-            Line(high_name, HIGH, scale.level(high)),
+            steps(mean_name, MEAN, means, scale),
+            steps(high_name, HIGH, highs, scale),
         ],
         bars=bars(shown, scale),
         gaps=gaps_of(is_unknown[-MOST_BARS:], scale),
@@ -124,15 +135,15 @@ class DrawnLaw(NamedTuple):
 
 
 def laws_drawn(depth: Depth) -> list[DrawnLaw]:
-    """Returns what was seen, the law, and that of the item alone, but for laws that are as what was seen."""
-    item = depth.question.item
-    boxes = Counter(-(-count // item.box) for count in item.known.counts)
-    seen = sorted(boxes.items())
+    """Returns what was seen, the law, and that of the item alone, but for laws that are as what was seen: with a season,
+    all of the month."""
+    question = depth.question
+    seen = [*zip(question.seen.values, question.seen.weights)]
     drawn = []
     if seen:
         drawn.append(DrawnLaw("what was seen", OF_TODAY, seen))
     for name, css, law in (
-        ("the law", OF_CHOSEN, depth.question.all_year),
+        ("the law", OF_CHOSEN, question.of_month),
         (ALONE, OF_ALONE, depth.single),
     ):
         if law:
@@ -158,7 +169,7 @@ def law_plot(depth: Depth, every: str) -> Plot:
     return Plot(
         title=f"In how many {every}s demand is so large, as it was seen and by the law",
         description="; ".join(law.said(ticks) for law in laws) + ".",
-        scale=scale,
+        heights=scale.heights,
         marks=across.marks,
         across=f"{things} that a {every} asks for, at least",
         lines=[law.line(across, scale) for law in laws],
@@ -197,7 +208,7 @@ def season_plot(depth: Depth, every: str) -> Plot | None:
     return Plot(
         title="Levels of the coming year, above the demand of the last one",
         description=capital(", ".join(said)),
-        scale=scale,
+        heights=scale.heights,
         marks=marks_of(names),
         across=across + UNKNOWN * any(is_gap),
         lines=[
@@ -229,8 +240,9 @@ def stock_plot(depth: Depth, every: str) -> Plot:
     return Plot(
         title=f"Stock at the end of each {every} of one run",
         description=f"{len(own):,} {every}s; {'; '.join(said)}.",
-        scale=scale,
+        heights=scale.heights,
         marks=marks_of([*map(str, range(len(own)))]),
         across=f"{every} of the run, numbered from 0",
         lines=lines,
+        owed=scale.at(0),
     )

@@ -1,7 +1,8 @@
 """Renders pages by jinja2, and makes their pictures from numbers. A page needs no other file.
 
-Shapes of a picture are SVG, in thousandths of its width and height. Words and numbers beside them are HTML, so that
-they stay readable if the picture is narrow.
+Shapes of a picture are SVG, in thousandths of its width and height. Words and numbers beside them do not stretch, so they
+stay readable if the picture is narrow. Pictures by matplotlib would triple an item's page, be white in a dark theme, and
+have letters of 5 pixels on a phone.
 """
 from __future__ import annotations
 
@@ -23,6 +24,7 @@ if TYPE_CHECKING:
     import jinja2
     from markupsafe import Markup
 
+    from ..curve.parts import Point
     from ..plan.backtest.estimates import Estimate
 
 UNITS = 1000
@@ -187,8 +189,9 @@ def templates(is_html: bool) -> jinja2.Environment:
 
 
 def rendered(template: str, context: Mapping[str, Any]) -> str:
-    """Returns a page or a text from a template of the package."""
-    return templates(template.endswith(".html")).get_template(template).render(context)
+    """Returns a page, a picture or a text from a template of the package."""
+    is_html = template.endswith((".html", ".svg"))
+    return templates(is_html).get_template(template).render(context)
 
 
 def round_steps(least: float, is_whole: bool) -> list[float]:
@@ -203,8 +206,7 @@ def round_steps(least: float, is_whole: bool) -> list[float]:
 
 
 def round_numbers(low: float, high: float, is_whole: bool) -> tuple[float, ...]:
-    """Returns the multiples of a round step in a range: some five, or two at least, and whole ones if there are two. So
-    does `MaxNLocator` of matplotlib, which takes long to import."""
+    """Returns the multiples of a round step in a range: some five, or two at least, and whole ones if there are two."""
     has_whole = is_whole and math.floor(high) > math.ceil(low)
     ticks: tuple[float, ...] = ()
     for step in round_steps((high - low) / MOST_TICKS, has_whole):
@@ -217,22 +219,28 @@ def round_numbers(low: float, high: float, is_whole: bool) -> tuple[float, ...]:
 
 
 class Scale(NamedTuple):
-    """A range of values and round numbers in it; or of the logarithms of chances, and powers of ten."""
+    """A range of values and round numbers in it, perhaps in percent; or of the logarithms of chances, and powers of
+    ten."""
 
     low: float
     high: float
     ticks: tuple[float, ...]
     is_of_chances: bool = False
+    sign: str = ""
 
     @classmethod
-    def of(cls, values: Sequence[float], is_whole: bool = False) -> Scale:
+    def of(
+        cls, values: Sequence[float], is_whole: bool = False, sign: str = ""
+    ) -> Scale:
         """Returns the scale of these values and 0. `is_whole` keeps its round numbers whole."""
         low, high = min(0.0, *values), max(0.0, *values)
-        return cls.between(low, high if high > low else low + 1, is_whole)
+        return cls.between(low, high if high > low else low + 1, is_whole, sign)
 
     @classmethod
-    def between(cls, low: float, high: float, is_whole: bool = False) -> Scale:
-        return cls(low, high, round_numbers(low, high, is_whole))
+    def between(
+        cls, low: float, high: float, is_whole: bool = False, sign: str = ""
+    ) -> Scale:
+        return cls(low, high, round_numbers(low, high, is_whole), sign=sign)
 
     @classmethod
     def of_chances(cls, least: float) -> Scale:
@@ -259,7 +267,7 @@ class Scale(NamedTuple):
         """Returns the text of a round number."""
         if self.is_of_chances:
             return f"1 in {1 / value:,.0f}"
-        return tick(value)
+        return tick(value) + self.sign
 
     @property
     def heights(self) -> list[Mark]:
@@ -306,18 +314,34 @@ def bars(heights: Sequence[float], scale: Scale, first: int = 0, count: int = 0)
     return path
 
 
+class NamedPoint(NamedTuple):
+    """A named point of the exchange curve: its figures, what these say, its style and form, and where it stands, in
+    percent of the picture."""
+
+    name: str
+    figures: Point
+    said: str
+    css: str
+    form: str
+    x: float
+    y: float
+
+
 class Plot(NamedTuple):
-    """A picture: what it shows, as a title and in figures; its scale upwards, and the marks and the name of the axis
-    across. Bars are a path, and so are gaps: periods that are not known."""
+    """A picture: what it shows, as a title and in figures; the marks upwards, and the marks and the name of the axis
+    across. Bars are a path, and so are gaps: periods that are not known. Up to `owed` the ground is that of items that
+    are owed."""
 
     title: str
     description: str
-    scale: Scale
+    heights: Sequence[Mark]
     marks: Sequence[Mark]
     across: str
     lines: Sequence[Line]
     bars: str = ""
     gaps: str = ""
+    owed: float = 0
+    points: Sequence[NamedPoint] = ()
 
 
 def marks_of(names: Sequence[str]) -> list[Mark]:

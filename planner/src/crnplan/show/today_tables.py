@@ -23,10 +23,10 @@ from ..plan.risk import Risk, risks_of
 from ..plan.standing import Standing
 from ..plan.today import Days, Group, Today, sum_of_money
 from ..read.item import PHASE_OUT
-from ..read.items import Words
+from ..read.items import Reading
 from ..read.observed import Day, stated_day
 from ..read.opening import Table
-from ..read.told import merged, told_of, words_from
+from ..read.told import made_from, merged, told_of
 from ..table import DataTable, Json, Result, names_of
 from ..words import counted
 from .catalogue_tables import (
@@ -267,9 +267,9 @@ class OrdersToday(Result):
             files[supplier_file(place)] = lines
         return files
 
-    def write(self, folder: Folder) -> None:
-        """Writes all tables, the order of each supplier, and the text into a folder. The order of a supplier without
-        one is removed.
+    def write(self, folder: Folder, style: str = "en") -> None:
+        """Writes all tables, the order of each supplier in a style, and the text into a folder. The order of a supplier
+        without one is removed.
 
         :meta private:
         """
@@ -277,7 +277,8 @@ class OrdersToday(Result):
         old = [name for name in folder.names if SUPPLIER_FILE.fullmatch(name)]
         folder.remove(*(name for name in old if name not in files))
         for name, table in files.items():
-            folder.write(name, table.lines)
+            is_order = SUPPLIER_FILE.fullmatch(name)
+            folder.write(name, table.lines_in(style if is_order else "en"))
         folder.write(SUMMARY, self.text)
 
     @judged("call")
@@ -404,11 +405,11 @@ class OrderDays:
     """A planned folder, which is only read, as it is asked for orders on days. Tables are read as those of the plan were,
     unless `words` say otherwise."""
 
-    def __init__(self, folder: PlannedFolder, words: Words) -> None:
+    def __init__(self, folder: PlannedFolder, words: Reading) -> None:
         planned = folder.read.fact("told")
         told = merged(planned, told_of(words))
         kept = replace(
-            words_from({**told, "every": folder.every}),
+            made_from(Reading, {**told, "every": folder.every}),
             is_where_needed=told.get("where") != planned.get("where"),
         )
         self.days = Days(folder, kept)
@@ -428,7 +429,10 @@ class OrderDays:
 
 
 def orders_today(
-    path: Path, tables: Mapping[str, Table | None], words: Words, day: Day | str | None
+    path: Path,
+    tables: Mapping[str, Table | None],
+    words: Reading,
+    day: Day | str | None,
 ) -> OrdersToday:
     """Returns what a planned folder says on a day: see `OrderDays`."""
     with tempfile.TemporaryDirectory(prefix="crnplan-") as room, copied_folder(
@@ -446,5 +450,5 @@ def has_stock(path: Path) -> bool:
 def orders_by_masters(path: Path) -> OrdersToday | None:
     """Returns what a planned folder says today by the stock of its masters; None if these have none."""
     if has_stock(path):
-        return orders_today(path, {}, Words(), None)
+        return orders_today(path, {}, Reading(), None)
     return None

@@ -15,7 +15,7 @@ from collections.abc import Iterator, Mapping, Sequence
 from pathlib import Path
 from typing import TYPE_CHECKING, NamedTuple
 
-from ..curve.exchange_curve import CurvePoint, kept_curve
+from ..curve.exchange_curve import COLUMNS, CurvePoint, kept_curve
 from ..curve.parts import Point
 from ..errors import Refused
 from ..store.files import named_bytes
@@ -24,9 +24,15 @@ from ..plan.answer import CHOSEN, TODAY
 from ..plan.catalogue import PlannedFolder, planned_folder
 from ..plan.survey import Survey
 from ..plan.totals import Totals
-from ..table import MONEY, Cell, Column, DataTable, is_missing
+from ..table import MONEY, Cell, Column, DataTable, is_missing, number, whole
 from .board import ALL_PARTS, NO_CLASS, PARTS
-from .catalogue_tables import DECISIONS, catalogue_summary, decisions_of, rejects_of
+from .catalogue_tables import (
+    DECISIONS,
+    catalogue_summary,
+    decisions_of,
+    details_of,
+    rejects_of,
+)
 from .change_tables import change_lines
 from ..columns import columns_of
 from .curves import AXIS, BLUE, LINE, MARKERS, SERVICE, TITLE, curve_ends
@@ -65,7 +71,15 @@ SUM_COLUMNS, CLASS_COLUMNS, READ_ME_COLUMNS = (
     columns_of("show", "classes"),
     columns_of("show", "read_me"),
 )
-CURVE_COLUMNS = columns_of("curve", "sheet")
+ON_CURVE = "point", "value", "fill", "orders", "cost"
+CURVE_COLUMNS = [column for column in COLUMNS if column.name in ON_CURVE]
+# How the lines of the summary are shown.
+FORMS = (
+    number("money", "money", "", MONEY),
+    number("share", "share", "", ".4f"),
+    number("orders", "orders", "", ".1f"),
+    whole("items", "items", ""),
+)
 TEXT = "@"  # the format of texts
 SPELT = re.compile(r"[+]?(?P<group>,?)\.(?P<digits>[0-9])(?P<kind>[f%])")
 
@@ -281,7 +295,7 @@ def new_book(path: Path, title: str) -> Iterator[Book]:
 def sums_of(folder: PlannedFolder, totals: Totals) -> Iterator[tuple[Sum, Column]]:
     """Yields what all items come to, today and chosen, and a column of such figures."""
     every = folder.every
-    money, share, orders, items = columns_of("show", "sum_forms")
+    money, share, orders, items = FORMS
     parts = {
         f"of it {words}": name for words, name in PARTS.items() if name != ALL_PARTS
     }
@@ -362,6 +376,7 @@ def fill_book(book: Book, folder: PlannedFolder, orders: OrdersToday | None) -> 
     lateness = lateness_of(folder.read)
     if lateness.rows:
         book.add("Suppliers", lateness)
+    book.add("Details", details_of(folder, folder.answers()))
     book.add(
         "Read me", folder.table(READ_ME_COLUMNS, book.meanings[:]), widest=MEANING_WIDTH
     )

@@ -310,9 +310,9 @@ class Cases:
         # Levels are looked at up to so many cells above the widest gap.
         high = theory.beside + theory.after.high
         if theory.has_one_lead:
-            high = max(theory.after.high, feasible.least // step)
-        self.width = high + feasible.multiple // step + 3
-        levels = feasible.up(step * np.arange(self.gaps[-1] + self.width))
+            high = max(theory.after.high, feasible.least_point // step)
+        self.width = high + 3
+        levels = step * np.arange(self.gaps[-1] + self.width)
         self.levels = np.unique(np.minimum(levels, feasible.top)) / step
         self.asked, self.ranks = np.unique(costs[2] / costs[1], return_inverse=True)
         self.best = np.full(len(self.ranks), np.inf)
@@ -321,18 +321,14 @@ class Cases:
     def bounds(self, gaps: Whole) -> tuple[Whole, Floats]:
         """Returns some gaps, for each the place of the first level above its least one, and that one, in cells."""
         least = (
-            self.theory.items(gaps) + self.theory.feasible.least
+            self.theory.items(gaps) + self.theory.feasible.least_point
         ) / self.theory.step
         return np.array([gaps, np.searchsorted(self.levels, least, "right")]), least
 
     def floor(self, table: Floats) -> Floats:
-        """Returns the least cost of stock and unmet demand of any low for each case; none if the least level of a gap
-        may be no level of a narrower one."""
-        feasible = self.theory.feasible
-        step = self.theory.step
-        if min(feasible.multiple, step) > 1:
-            return np.full(len(self.ranks), -np.inf)
-        lows = table[:, feasible.least // step :].copy()
+        """Returns the least cost of stock and unmet demand of any low for each case."""
+        theory = self.theory
+        lows = table[:, theory.feasible.least_point // theory.step :].copy()
         points = np.empty((3, lows.shape[1]))
         chosen = np.empty(len(self.asked), int)
         choose_points(

@@ -13,77 +13,54 @@ Places = TypeVar("Places", int, Whole)
 @dataclass(frozen=True)
 class Feasible:
     """The pairs (s,S) that may be chosen, in items of a scenario: S - s is from `least_gap` to `most_gap`, s at least
-    `least_point`, S at most `most_level`, and both are multiples of `multiple`."""
+    `least_point`, and S at most `most_level`."""
 
     least_gap: int = 0
     least_point: int = 0
     most_level: int = MOST_ITEMS
-    multiple: int = 1
     most_gap: int = MOST_ITEMS
 
     @property
     def has_narrow_gaps(self) -> bool:
         """Returns whether S - s has no bound below."""
-        return self.least_gap == 0 and self.multiple == 1
+        return self.least_gap == 0
 
     @property
     def has_all_levels(self) -> bool:
         """Returns whether S has no bound above s."""
-        return self.most_level == ALL.most_level and self.multiple == 1
-
-    @property
-    def least(self) -> int:
-        """Returns the least s."""
-        return self.up(self.least_point)
+        return self.most_level == ALL.most_level
 
     @property
     def top(self) -> int:
         """Returns the greatest S."""
-        return min(self.most_level, MOST_ITEMS) // self.multiple * self.multiple
+        return min(self.most_level, MOST_ITEMS)
 
     @property
     def widest(self) -> int:
         """Returns the greatest S - s; below 0 if no S is as high as the least s."""
-        return min(self.top - self.least, self.most_gap)
+        return min(self.top - self.least_point, self.most_gap)
 
     def top_of(self, point: int) -> int:
         """Returns the greatest S of an s that may be chosen."""
-        return min(self.top, point + self.most_gap // self.multiple * self.multiple)
-
-    def up(self, amount: Places) -> Places:
-        """Returns the least multiples that are no less than some amounts."""
-        return -(-amount // self.multiple) * self.multiple
+        return min(self.top, point + self.most_gap)
 
     def gap(self, least: Places) -> Places:
         """Returns the least S - s that may be chosen, and that are at least so many items."""
-        return self.up(least + (self.least_gap - least) * (least < self.least_gap))
+        return least + (self.least_gap - least) * (least < self.least_gap)
 
     def gap_in(self, cell: Places, step: int, exact: bool) -> Places:
         """Returns S - s for cells of a lattice: the least in the cell; if the lattice is not exact, one from its middle
         on if there is one, and room for it up to the greatest gap. If there is none in the cell, it is beyond.
         """
         low = cell * step
-        if exact and self.has_narrow_gaps:
-            return low
         near = low + (0 if exact else (step - 1) // 2)
         most = self.widest
         near -= (near - most) * (near > most) * (low <= most)
-        if self.has_narrow_gaps:
-            return near
-        least = self.gap(low)
-        middle = self.gap(near)
-        return least + (middle - least) * (middle < low + step)
+        return self.gap(near)
 
     def has(self, point: Any, level: Any) -> Any:
-        """Returns whether pairs may be chosen, whatever S - s is but for multiples."""
-        is_within = (self.least <= point) & (point <= level) & (level <= self.top)
-        return (
-            is_within
-            if self.multiple == 1
-            else (
-                is_within & (point % self.multiple == 0) & (level % self.multiple == 0)
-            )
-        )
+        """Returns whether pairs may be chosen, whatever S - s is."""
+        return (self.least_point <= point) & (point <= level) & (level <= self.top)
 
     def allows(self, point: int, level: int) -> bool:
         """Returns whether a pair may be chosen."""

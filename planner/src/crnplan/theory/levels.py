@@ -26,12 +26,11 @@ class Lows(NamedTuple):
 
 
 class Bounds(NamedTuple):
-    """Levels that may be chosen, in items: multiples up to the `top`, and none if the best of all is above the `cut`. A
+    """Levels that may be chosen, in items: those up to the `top`, and none if the best of all is above the `cut`. A
     table has the level 0 at its place `origin`, and a place for each `step`."""
 
     origin: int
     step: int
-    multiple: int
     top: int
     cut: int
 
@@ -107,33 +106,20 @@ def cheaper_of(
     lows: Lows, bounds: Bounds, level: int, least: int, allowed: float, held: float
 ) -> tuple[int, float]:
     """Returns the cheapest level that may be chosen, and the sum of its stock costs, if some level is the cheapest of
-    all; infinity if there is none, or if that level is above the cut. Costs are convex in the level, so it is one of
-    both multiples beside that one, or beyond the greatest level that one."""
-    best = -1
-    least_cost = np.inf
-    if level > bounds.cut:
-        return best, least_cost
-    for rest in (0, bounds.multiple - 1):
-        chosen = (level + rest) // bounds.multiple * bounds.multiple
-        chosen = min(chosen, bounds.top)
-        if chosen < least:
-            continue
-        cells = chosen / bounds.step + bounds.origin
-        if chosen != level and allowed < np.inf:
-            unmet = sum_between(lows, cells, 1)
-            if unmet > allowed * (1 + NEAR):
-                continue
-        if chosen < level and held > 0:
-            # Between two cells a level has the chance of the lower one.
-            if sum_at(lows, int(np.floor(cells)), 2) < held:
-                continue
-        cost = sum_between(lows, cells, 0)
-        if cost < least_cost:
-            best = chosen
-            least_cost = cost
-        if chosen == level:
-            break
-    return best, least_cost
+    all; infinity if there is none, or if that level is above the cut. Costs are convex in the level, so beyond the
+    greatest level it is that one."""
+    chosen = min(level, bounds.top)
+    none = -1, np.inf
+    if level > bounds.cut or chosen < least:
+        return none
+    cells = chosen / bounds.step + bounds.origin
+    if chosen < level:
+        if allowed < np.inf and sum_between(lows, cells, 1) > allowed * (1 + NEAR):
+            return none
+        # Between two cells a level has the chance of the lower one.
+        if held > 0 and sum_at(lows, int(np.floor(cells)), 2) < held:
+            return none
+    return chosen, sum_between(lows, cells, 0)
 
 
 @compiled

@@ -209,7 +209,7 @@ class LongRun(Figured):
 
     def floor(self, gap: Places) -> Places:
         """Returns the least feasible level of a gap, in cells."""
-        return -(-(self.items(gap) + self.feasible.least) // self.step)
+        return -(-(self.items(gap) + self.feasible.least_point) // self.step)
 
     def policy(self, gap: int, level: int, point: int | None = None) -> Candidate:
         """Returns the policy of a gap with a level, and perhaps a point; none if it is not feasible."""
@@ -265,14 +265,12 @@ class LongRun(Figured):
         turned = (lows[None] if is_nested else self.rows_of(gaps))[:, ::-1].copy()
         width = turned.shape[1]
         # Levels are no less than their gaps, if these are nested and no s is below 0.
-        origin = 2 if is_nested and feasible and feasible.least >= 0 else width
+        origin = 2 if is_nested and feasible and feasible.least_point >= 0 else width
         # With a level below the last one, nothing is ever owed.
         last = max(int(self.floor(gaps[-1])), width - above + self.after.high) + 1
         cells = np.arange(above - origin, above + last + 1)
         table = self.figures_from(self.step * cells, is_nested)
-        multiple, top = 1, MOST_LEVEL
-        if feasible:
-            multiple, top = feasible.multiple, feasible.top
+        top = feasible.top if feasible else MOST_LEVEL
         return walked(
             gaps,
             leasts,
@@ -281,7 +279,7 @@ class LongRun(Figured):
             turned,
             table,
             *(evened(lows, table) if is_nested else (table, MOST_LEVEL)),
-            Bounds(origin, self.step, multiple, top, cut),
+            Bounds(origin, self.step, top, cut),
             self.setup / self.span,
             base,
             self.holding * self.step / 2,
@@ -315,13 +313,13 @@ class LongRun(Figured):
 
     def lowest_point(self, cost: float) -> int:
         """Returns the least s, but for the least feasible gap, of a policy that costs no more: see the module."""
-        if not self.has_one_lead or self.feasible.multiple > 1:
-            return self.feasible.least
-        first = self.feasible.least // self.step
+        if not self.has_one_lead:
+            return self.feasible.least_point
+        first = self.feasible.least_point // self.step
         levels = self.step * np.arange(min(first, 0), self.after.high + 2)
         cheap = int((self.figures_from(levels)[0] <= CLOSE * cost).argmax())
         lowest = int(levels[cheap]) - self.step + 1
-        return max(self.feasible.least, lowest)
+        return max(self.feasible.least_point, lowest)
 
     def levels_of(self, gaps: Whole, sought: Sought, known: float = math.inf) -> Levels:
         """Returns for each of some rising gaps the level that is sought, with its cost. Gaps that cost more than a known
@@ -346,7 +344,7 @@ class LongRun(Figured):
             levels[here], costs[here] = self.walk(
                 some,
                 # The best S is never below 0.
-                np.maximum(self.items(some) + self.feasible.least, 0),
+                np.maximum(self.items(some) + self.feasible.least_point, 0),
                 fixed[here] if len(fixed) else NONE,
                 share=sought.share,
                 ratio=self.ratio,
@@ -424,7 +422,7 @@ class LongRun(Figured):
                 self.found[share] = free._replace(point=point)
             else:
                 self.found[share] = self.at_gap(
-                    self.cheapest(Sought(share, lowest=self.feasible.least))
+                    self.cheapest(Sought(share, lowest=self.feasible.least_point))
                 )
         return self.found[share]
 
@@ -462,31 +460,23 @@ class LongRun(Figured):
         """Returns the cheapest feasible policy with a reorder point.
 
         If demand comes in packs, all S up to a pack higher have one gap. Their costs bend only at multiples of it. So
-        S may cost least with what these rests have beyond the least of a gap, in items; or with the feasible S beside
-        them, or the greatest one.
+        S may cost least with what these rests have beyond the least of a gap, in items; or the greatest S may.
         """
         rests = sorted({0, -point % self.step, self.step - 1}) if self.exact else [0]
-        most_less = self.feasible.multiple - 1
-        found = [
-            self.best_with_rest(point, rest, less)
-            for rest in rests
-            for less in sorted({0, most_less})
-        ]
+        found = [self.best_with_rest(point, rest) for rest in rests]
         top = self.feasible.top_of(point)
         if len(rests) > 1 and top < ALL.most_level:
             found.append(self.policy(self.gap_of(point, top), top, point))
         return min(found)
 
-    def best_with_rest(self, point: int, rest: int, less: int) -> Candidate:
+    def best_with_rest(self, point: int, rest: int) -> Candidate:
         """Returns the cheapest feasible policy with a reorder point and a rest of S. If that S is not feasible, it is
-        the first from there on, or from so many items less on."""
+        the first from there on."""
 
         def fixed(gaps: Whole) -> tuple[Whole, Whole]:
             spans: Whole = self.items(gaps)
             if self.exact:
-                spans = np.maximum(
-                    spans, self.feasible.gap(gaps * self.step + rest - less)
-                )
+                spans = np.maximum(spans, self.feasible.gap(gaps * self.step + rest))
             return np.full(len(gaps), point), point + spans
 
         return self.at_gap(self.cheapest(Sought(lowest=point, fixed=fixed)), point)

@@ -272,13 +272,13 @@ def figures_of_laws(
     for theory, pairs in asked:
         theory.figure(pairs)
         figures.append([theory.figures(policy.s, policy.S) for policy in policies])
-    table = np.array(figures)
+    table, scale = np.array(figures), float(scenario.scale)
     rough = [run for run in runs if not run.theory.exact]
     return LawFigures(
         tuple(run.place for run in runs),
-        table[..., 0],
+        table[..., 0] / scale,
         table[..., 1],
-        np.array(least_costs((run.theory, run.most) for run in runs)),
+        np.array(least_costs((run.theory, run.most) for run in runs)) / scale,
         max(run.theory.step for run in runs),
         max((run.error(policies) for run in rough[:CHECKED]), default=None),
     )
@@ -380,7 +380,7 @@ class Promises:
             return NO_POLICY
         if level <= least.level:
             return least
-        return self.theory.policy(own, feasible.up(int(level)))
+        return self.theory.policy(own, int(level))
 
     @property
     def place(self) -> int:

@@ -239,9 +239,10 @@ def start_bias(scenario: Scenario, known: LongRun | None = None) -> StartBias:
         scenario.initial < policy.s or (policy.S - scenario.initial) % theory.step == 0
         for policy in policies
     )
+    usual = (theory.figures(policy.s, policy.S).cost for policy in policies)
     return StartBias(
-        tuple(biases),
-        tuple(theory.figures(policy.s, policy.S).cost for policy in policies),
+        tuple(map(scenario.money, biases)),
+        tuple(map(scenario.money, usual)),
         theory,
         on_lattice,
     )
@@ -261,4 +262,5 @@ def end_effects(
     except NoTheory:
         return None
     positions = [theory.mean_position(policy.s, policy.S) for policy in policies]
-    return [scenario.costs.unit * (position - positions[0]) for position in positions]
+    unit = scenario.money(scenario.costs.unit)
+    return [unit * (position - positions[0]) for position in positions]

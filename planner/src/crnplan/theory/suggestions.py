@@ -15,6 +15,7 @@ import itertools
 import math
 from collections.abc import Iterable, Iterator, Sequence
 from dataclasses import dataclass
+from fractions import Fraction
 
 from ..formats import MOST_ITEMS, POLICIES
 from ..law import Law
@@ -154,7 +155,7 @@ def chosen_policies(
         if changed >= 0:
             changed = theory.gap_of(0, theory.feasible.gap(changed * theory.step))
             chosen.add(name, theory.cheapest_of_gaps([changed], 0.0), Remark(name))
-    shift = theory.feasible.up(max(1, round(theory.deviation / 2)))
+    shift = max(1, round(theory.deviation / 2))
     for name, times in NEIGHBOURS.items():
         point = best.point + times * shift
         if 0 <= point <= MOST_ITEMS:
@@ -176,11 +177,10 @@ class Suggestion:
         """Returns the reasons in words."""
         return tuple(map(sentence, self.remarks))
 
-    @property
-    def text(self) -> str:
-        """Returns the policy as TOML, with its reasons and figures as a comment."""
+    def toml(self, scale: Fraction) -> str:
+        """Returns the policy as TOML, with its reasons and figures as a comment: one of money counts `scale` there."""
         policy = self.policy
-        cost = self.figures.cost
+        cost = self.figures.cost * float(scale)
         fill = self.figures.fill
         return (
             f"\n# {'; '.join(self.reasons)} (by theory {cost:.2f} a period, fill {fill:.2%})\n[[policy]]\n"
@@ -231,22 +231,25 @@ class ByTheory(Result):
     @property
     def notes(self) -> str:
         """Returns what the figures mean, and what is known of their error."""
-        unit = self.scenario.costs.unit * self.net
+        unit = self.scenario.money(self.scenario.costs.unit * self.net)
         said = map(sentence, figures_said(unit, self.step, self.error))
         return "\n".join(["", BY_ITS_LAWS, *said, ""])
 
 
 def figured(
-    policies: Iterable[Policy], theory: LongRun, coarse: LongRun | None
+    scenario: Scenario,
+    policies: Iterable[Policy],
+    theory: LongRun,
+    coarse: LongRun | None,
 ) -> Iterator[tuple[Figures, float | None]]:
-    """Yields the figures of policies, each with about the relative error of its cost by a coarser theory; None without
-    one."""
+    """Yields the figures of policies by the theory of a scenario, each with about the relative error of its cost by a
+    coarser theory; None without one."""
     for policy in policies:
         figures, error = theory.figures(policy.s, policy.S), None
         if coarse:
             cost = coarse.figures(policy.s, policy.S).cost
             error = abs(cost - figures.cost) / figures.cost
-        yield figures, error
+        yield figures._replace(cost=scenario.money(figures.cost)), error
 
 
 def by_theory(scenario: Scenario, policies: Sequence[Policy]) -> ByTheory:
@@ -254,7 +257,8 @@ def by_theory(scenario: Scenario, policies: Sequence[Policy]) -> ByTheory:
     widest = max(policy.S - policy.s for policy in policies)
     theory, coarse = theories_of(scenario, widest)
     rows, errors = list[Suggestion](), list[float]()
-    for policy, (figures, error) in zip(policies, figured(policies, theory, coarse)):
+    known = figured(scenario, policies, theory, coarse)
+    for policy, (figures, error) in zip(policies, known):
         rows.append(Suggestion(policy, (), figures))
         errors += [] if error is None else [error]
     net = theory.net.mean * theory.step
@@ -315,7 +319,7 @@ class Suggestions(Result):
     @property
     def notes(self) -> str:
         """Returns the lines below the table: what its columns mean, and what is known of the error and of a run."""
-        unit = self.scenario.costs.unit
+        unit = self.scenario.money(self.scenario.costs.unit)
         remarks = figures_said(unit * self.net, self.step, self.error)
         start = {"mean": self.position, "today": self.scenario.initial}
         remarks += self.remarks
@@ -327,9 +331,9 @@ class Suggestions(Result):
 
     def toml(self, *, initial: bool = False, unit_zero: bool = False) -> str:
         """Returns the scenario with the suggested policies as TOML, each with its reasons and its cost as a comment.
-        The comment at the top stays. `initial` writes the proposed start, `unit_zero` an item cost of 0.
+        The comment at the top stays. All costs are in the program's whole numbers. `initial` writes the proposed start, `unit_zero` an item cost of 0.
         """
-        source = self.scenario.toml()
+        source, scale = self.scenario.toml(), self.scenario.scale
         tree, _ = read_document(source.encode())
         tree["policy"] = []
         if initial or not self.scenario.has_initial:
@@ -337,7 +341,7 @@ class Suggestions(Result):
         if unit_zero:
             tree["costs"]["unit"] = 0
         return "".join(
-            [head_of(source), plain_text(tree), *(row.text for row in self.rows)]
+            [head_of(source), plain_text(tree), *(row.toml(scale) for row in self.rows)]
         )
 
 
@@ -364,7 +368,7 @@ def suggestions_of(
     rows, errors = list[Suggestion](), list[float]()
     known = [policy for policy, _ in chosen.policies.values()]
     for (policy, reasons), (figures, error) in zip(
-        chosen.policies.values(), figured(known, theory, coarse)
+        chosen.policies.values(), figured(scenario, known, theory, coarse)
     ):
         rows.append(Suggestion(policy, tuple(reasons), figures))
         errors += [] if error is None else [error]

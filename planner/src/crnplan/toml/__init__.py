@@ -1,1 +1,1 @@
-"""Reads TOML documents and says all that is wrong with them, each fault with its line and with advice."""
+"""Reads TOML documents and says all that is wrong with them, each fault with its line."""

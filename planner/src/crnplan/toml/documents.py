@@ -12,7 +12,6 @@ import math
 import re
 import sys
 import tomllib
-import unicodedata
 from bisect import bisect_right
 from collections.abc import Callable, Iterator
 from operator import itemgetter
@@ -31,17 +30,6 @@ SHORT_TIME = re.compile("[0-9]{2}:[0-9]{2}")
 ESCAPE = re.compile(r"\\(?:x([0-9A-Fa-f]{2})|(e)|.)", re.DOTALL)
 # Blanks, line ends and comments, and the character behind them.
 NEXT = re.compile(r"(?:\s|#[^\n]*)*(.?)")
-# What to do about what stands in a document and should not.
-ADVICE: dict[str, Any] = tomllib.loads(
-    FilePath(__file__).with_name("advice.toml").read_text("utf-8")
-)
-INSTEAD = {
-    sign: advice for advice, signs in ADVICE["instead"].items() for sign in signs
-}
-NOT_ASCII = re.compile(r"[^\x00-\x7f]")
-FULL_WIDTH = range(0xFF01, 0xFF5F)
-APOSTROPHES = re.compile(r"(?<![\w'\"])[0-9]{1,3}(?:'[0-9]{3})+(?![\w'])")
-NUMBER = r"(?:^|[=\[,])\s*[+-]?"
 
 
 def shown(value: Any) -> str:
@@ -106,66 +94,10 @@ def older_text(text: str) -> str:
     return "".join(older)
 
 
-def odd_advice(text: str) -> str:
-    """Returns a hint on the first character of a text that is not ASCII; the empty text if there is none."""
-    odd = NOT_ASCII.search(text)
-    if odd is None:
-        return ""
-    character = odd[0]
-    name = unicodedata.name(character, "unnamed character").lower()
-    name = ADVICE["names"].get(character, name)
-    digit = unicodedata.digit(character, "")
-    advice = f"write {digit}" if digit != "" else "write ASCII characters here"
-    advice = INSTEAD.get(character, advice)
-    if ord(character) in FULL_WIDTH:
-        advice = f"write {chr(ord(character) - 0xfee0)}"
-    return f"it has U+{ord(character):04X} ({name}): {advice}"
-
-
-def code_of(line: str) -> str:
-    """Returns a line with blanks in place of its texts and comments: each character keeps its place."""
-    parts = []
-    for token in TOKEN.findall(line):
-        is_text = token[0] in "\"'" and len(token) > 1
-        parts.append(" " * len(token) if is_text or token[0] == "#" else token)
-    return "".join(parts)
-
-
-def usual_cause(text: str, offset: int, message: str) -> str:
-    """Returns what a text usually comes from that is no document at an offset, by the message of Python's reader."""
-    start, end = text.rfind("\n", 0, offset) + 1, text.find("\n", offset)
-    line = text[start:] if end < 0 else text[start:end]
-    if "\0" in line:
-        return "there are NUL characters: this may be UTF-16; save the file as UTF-8"
-    code = code_of(line)
-    odd = NOT_ASCII.search(code)
-    if odd:
-        return f"column {odd.start() + 1}: {odd_advice(code)}"
-    advice: str = next(
-        advice
-        for beginning, advice in ADVICE["messages"]
-        if message.startswith(beginning)
-    )
-    if message.startswith("Cannot declare"):
-        return advice
-    if message == "Invalid value" and re.match(r"\s*\[\[?[A-Za-z]+\]", code):
-        return "the list above this line does not end: write ] at its end"
-    grouped = APOSTROPHES.search(line)
-    if grouped:
-        return f"no ' within a number: {grouped[0].replace(chr(39), '')} or {grouped[0].replace(chr(39), '_')}"
-    for pattern, habit in ADVICE["habits"]:
-        match = re.search(pattern.replace("<number>", NUMBER), code)
-        if match:
-            plain = re.sub("[^0-9]", "", match[0]).lstrip("0") or "0"
-            return str(habit).format(plain=plain, grouped=f"{int(plain[:30]):_}")
-    return advice
-
-
 MARK = b"\xef\xbb\xbf"
 BYTE_ORDER_MARKS = (b"\xff\xfe", b"\xfe\xff")
 OWN = r'"\u0000"'  # a key that stands for its table
 DOCUMENT = "the document"
-IN_RANGE = "write a number within its range"
 
 Tree = dict[str, Any]
 # Keys, and numbers of entries, counted from 1: ("policy", 3, "s").
@@ -176,39 +108,20 @@ Place = tuple[
 
 
 class TreeFault(NamedTuple):
-    """A fault of a document: the number of its rule (of a scenario, as in docs/FORMATS.md), its path, what is wrong,
-    what to do, and how many others like it are in the same list; then its place, 0 if not known, and that in words.
-    """
+    """A fault of a document: the number of its rule (of a scenario, as in docs/FORMATS.md), its path, what is wrong, and
+    perhaps what to do; then its place, 0 if not known, and that in words."""
 
     rule: int
     path: Path
     what: str
-    advice: str
-    more: int = 0
+    advice: str = ""
     line: int = 0
     column: int = 0
     where: str = DOCUMENT
 
     @property
     def reason(self) -> str:
-        more = f"; {self.more} more in this list" if self.more else ""
-        return f"{self.what} ({self.advice}){more}"
-
-    @property
-    def text(self) -> str:
-        """Returns the line that `crnplan why` prints."""
-        line = f"line {self.line}: " if self.line and self.rule > 1 else ""
-        return f"fault {self.rule}: {line}{self.where}: {self.reason}"
-
-    @property
-    def record(self) -> dict[str, int | str]:
-        return {
-            "rule": self.rule,
-            "line": self.line,
-            "column": self.column,
-            "where": self.where,
-            "reason": self.reason,
-        }
+        return f"{self.what}; {self.advice}" if self.advice else self.what
 
     def fault(self, file: str) -> Fault:
         where = "" if self.rule == 1 and self.line else f"{self.where}: "
@@ -230,27 +143,23 @@ class SpeltFloat(float):
         return value
 
 
-def _no_document(
-    what: str, advice: str, text: str = "", offset: int | None = None, end: str = ""
-) -> TreeFault:
+def _no_document(what: str, text: str = "", offset: int | None = None) -> TreeFault:
     """Returns fault 1 at an offset of a text, or of the whole document."""
     if offset is None:
-        return TreeFault(1, (), what, advice)
+        return TreeFault(1, (), what)
     line, column = text.count("\n", 0, offset) + 1, offset - text.rfind("\n", 0, offset)
-    return TreeFault(
-        1, (), what, advice, 0, line, column, f"line {line}, column {column}{end}"
-    )
+    return TreeFault(1, (), what, line=line, column=column)
 
 
 def _unread(text: str, fault: tomllib.TOMLDecodeError) -> TreeFault:
     """Returns fault 1 of a text that is no TOML document, as Python's reader reports it of the older spelling."""
     message, _, at = str(fault).rpartition(" (at ")
     place = re.match(r"line ([0-9]+), column ([0-9]+)", at)
-    offset, end = len(text), ", the end"
+    offset = len(text)
     if place:
         starts = line_starts(older_text(text))
-        offset, end = starts[int(place[1]) - 1] + int(place[2]) - 1, ""
-    return _no_document(message, usual_cause(text, offset, message), text, offset, end)
+        offset = starts[int(place[1]) - 1] + int(place[2]) - 1
+    return _no_document(message, text, offset)
 
 
 def line_starts(text: str) -> list[int]:
@@ -264,7 +173,7 @@ def _huge_fault(text: str, huge: int) -> TreeFault:
     if huge.bit_length() < 1000:
         spelt = re.search(rf"(?<![0-9]){'_?'.join(str(huge))}(?![0-9])", text)
     what = f"the integer {shown(huge)} is beyond 64 bits"
-    return _no_document(what, IN_RANGE, text, spelt.start() if spelt else None)
+    return _no_document(what, text, spelt.start() if spelt else None)
 
 
 def read_bytes(path: str | FilePath) -> bytes:
@@ -296,12 +205,9 @@ def text_of_document(data: bytes) -> str:
 def _not_utf8(data: bytes, offset: int) -> TreeFault:
     """Returns fault 1 of bytes that are no UTF-8 from an offset on."""
     if data[:2] in BYTE_ORDER_MARKS:
-        what = "this is UTF-16, not UTF-8"
-        advice = "a spreadsheet or an editor has saved it so; save it as UTF-8"
-        return TreeFault(1, (), what, advice, line=1, where="line 1")
-    what = f"the byte {data[offset]:#04x} is no UTF-8"
+        return TreeFault(1, (), "this is UTF-16, not UTF-8", line=1)
     before = data[:offset].decode("utf-8")
-    return _no_document(what, "save the file as UTF-8", before, offset)
+    return _no_document(f"the byte {data[offset]:#04x} is no UTF-8", before, offset)
 
 
 def read_document(data: bytes) -> tuple[Tree, list[TreeFault]]:
@@ -315,14 +221,12 @@ def read_document(data: bytes) -> tuple[Tree, list[TreeFault]]:
     except tomllib.TOMLDecodeError as fault:
         return {}, [_unread(text, fault)]
     except OverflowError as fault:
-        return {}, [
-            _no_document(f"the number {str(fault)[:40]} is too great", IN_RANGE)
-        ]
+        return {}, [_no_document(f"the number {str(fault)[:40]} is too great")]
     except RecursionError:
         what = f"lists and tables within each other, or parts of a key, are more than {MOST_LEVELS}"
-        return {}, [_no_document(what, "a scenario needs three")]
+        return {}, [_no_document(what)]
     except ValueError:
-        return {}, [_no_document("an integer is beyond 64 bits", IN_RANGE)]
+        return {}, [_no_document("an integer is beyond 64 bits")]
     faults = []
     for _, value in parts_of(tree):
         if type(value) is int and not -(2**63) <= value < 2**63:
@@ -414,6 +318,7 @@ def read_judged(
     places = places_of(text_of_document(data), tree)
     placed = []
     for fault in faults:
-        line, column = places.get(fault.path, (0, 0))
+        paths = (fault.path[:length] for length in range(len(fault.path), 0, -1))
+        line, column = next((places[path] for path in paths if path in places), (0, 0))
         placed.append(fault._replace(line=line, column=column))
     return tree, placed

@@ -9,18 +9,16 @@ import itertools
 import json
 import re
 import tomllib
-from collections.abc import Container, Hashable, Iterator, Mapping
+from collections.abc import Container, Iterator, Mapping
 from operator import attrgetter
 from typing import Any, TypeGuard
 
 from .. import formats
 from ..errors import ScenarioError
 from .documents import (
-    DOCUMENT,
     Path,
     Tree,
     TreeFault,
-    odd_advice,
     older_text,
     read_judged,
     shown,
@@ -28,13 +26,13 @@ from .documents import (
 from .rules import (
     RANGE,
     Check,
-    Judge,
     Key,
     Table,
+    first_of_each,
     no_faults,
     number,
     numbers,
-    once_each,
+    place_text,
     wrong_kind,
 )
 
@@ -51,43 +49,27 @@ VERSION, LENGTHS, ORDER, SUM, LEVELS, NAME, RING, COUNT = (
         "PolicyCount",
     )
 )
-LONGEST_NAME = 20
 # So many faults are in the text of an error. Its `faults` has all.
 MOST_SHOWN = 20
 # Comment lines behind an empty line at the end of a text. They are about the table that followed.
 COMMENT_AT_END = re.compile(r"\n\n(#[^\n]*\n)+\Z")
 
 
-def _advice_on_word(word: str) -> str:
-    if formats.WORD.fullmatch(word.lower()):
-        return "write a-f in lower case"
-    is_whole = len(word) == formats.DIGITS_OF_WORD
-    advice = f"it has {len(word)} characters"
-    advice = "write digits of 0-9a-f alone" if is_whole else advice
-    return odd_advice(word) or advice
-
-
 def _key_faults(path: Path, value: Any) -> list[TreeFault]:
-    """Returns the faults of the key of the random stream, each kind of fault once."""
+    """Returns the faults of the key of the random stream, the first of each rule."""
     if not isinstance(value, list):
         return wrong_kind(path, value, "a list of four texts")
-    faults: list[tuple[Hashable, TreeFault]] = []
+    faults: list[TreeFault] = []
+    if len(value) != formats.WORDS_OF_KEY:
+        faults.append(TreeFault(RANGE, path, f"there are {len(value)} texts, not 4"))
     for place, word in enumerate(value, 1):
         at = (*path, place)
         if not isinstance(word, str):
-            (fault,) = wrong_kind(at, word, "a text of 16 digits of 0-9a-f")
-            faults.append((fault.rule, fault))
+            faults += wrong_kind(at, word, "a text of 16 digits of 0-9a-f")
         elif not formats.WORD.fullmatch(word):
-            what, advice = f"{shown(word)} is not 16 digits of 0-9a-f", _advice_on_word(
-                word
-            )
-            faults.append((advice, TreeFault(RANGE, at, what, advice)))
-    found = once_each(faults)
-    if len(value) != formats.WORDS_OF_KEY:
-        what = f"there are {len(value)} texts, not 4"
-        count = TreeFault(RANGE, path, what, "write four, each of 16 digits")
-        found.insert(0, count)
-    return found
+            what = f"{shown(word)} is not 16 digits of 0-9a-f"
+            faults.append(TreeFault(RANGE, at, what))
+    return first_of_each(faults)
 
 
 def name_faults(path: Path, name: Any) -> list[TreeFault]:
@@ -97,11 +79,8 @@ def name_faults(path: Path, name: Any) -> list[TreeFault]:
     if formats.NAME.fullmatch(name):
         return []
     least, most = formats.limits("policy", "name")
-    advice = "write letters, digits, _ and - alone"
-    if not least <= len(name) <= most:
-        advice = f"it has {len(name)} characters: write {least} to {most}"
     what = f"{shown(name)} is not {least} to {most} of A-Z a-z 0-9 _ -"
-    return [TreeFault(NAME, path, what, odd_advice(name) or advice)]
+    return [TreeFault(NAME, path, what)]
 
 
 RINGS = f"{', '.join(map(str, formats.RING_SIZES[:4]))}, .., {formats.RING_SIZES[-1]:,}"
@@ -114,20 +93,19 @@ def _ring_faults(path: Path, value: Any) -> list[TreeFault]:
     if value in formats.RING_SIZES:
         return []
     what = f"{shown(value)} is not one of {RINGS}"
-    return [TreeFault(RING, path, what, f"write ring = {formats.RING_SIZES[-1]}")]
+    return [TreeFault(RING, path, what)]
 
 
 def _are_whole(values: Any) -> TypeGuard[list[int]]:
     return isinstance(values, list) and {*map(type, values)} <= {int}
 
 
-def _falls(path: Path, values: list[int]) -> Iterator[tuple[Hashable, TreeFault]]:
+def _falls(path: Path, values: list[int]) -> Iterator[TreeFault]:
     """Yields the fault of each value that is not above the one before it."""
-    advice = "write each value once, rising, with its weight"
     for entry, (low, high) in enumerate(itertools.pairwise(values), 2):
         if low >= high:
             what = f"{shown(high)} is not above the {shown(low)} before it"
-            yield ORDER, TreeFault(ORDER, (*path, entry), what, advice)
+            yield TreeFault(ORDER, (*path, entry), what)
 
 
 def _draws_faults(
@@ -139,17 +117,13 @@ def _draws_faults(
     if isinstance(values, list) and isinstance(weights, list):
         if len(values) != len(weights):
             what = f"there are {len(values)} values and {len(weights)} weights"
-            advice = "write one weight for each value"
-            faults.append(TreeFault(LENGTHS, path, what, advice))
+            faults.append(TreeFault(LENGTHS, path, what))
     if _are_whole(values):
-        faults += once_each(_falls((*path, "values"), values))
+        faults += first_of_each(_falls((*path, "values"), values))
     least, most = formats.WEIGHT_SUMS
     if _are_whole(weights) and not least <= sum(weights) <= most:
-        advice = "give some value a weight above 0"
-        if sum(weights) > 0:
-            advice = "divide all weights by the same number"
         what = f"they come to {shown(sum(weights))}, which is not from {least:,} to {most:,}"
-        faults.append(TreeFault(SUM, (*path, "weights"), what, advice))
+        faults.append(TreeFault(SUM, (*path, "weights"), what))
     return faults
 
 
@@ -161,7 +135,7 @@ def _levels_faults(
     if type(point) is not int or type(level) is not int or point <= level:
         return []
     what = f"the reorder point s = {shown(point)} is above the order-up-to level S = {shown(level)}"
-    return [TreeFault(LEVELS, path, what, "interchange them, or raise S")]
+    return [TreeFault(LEVELS, path, what)]
 
 
 def _policies_faults(path: Path, policies: list[Any]) -> list[TreeFault]:
@@ -171,17 +145,12 @@ def _policies_faults(path: Path, policies: list[Any]) -> list[TreeFault]:
     least, most = formats.POLICIES
     if not least <= len(policies) <= most:
         what = f"there are {len(policies)} policies, not {least} to {most}"
-        advice = "write one at least"
-        if policies:
-            advice = "split them over several scenarios, with the same first policy"
-        faults.append(TreeFault(COUNT, path, what, advice))
+        faults.append(TreeFault(COUNT, path, what))
     for entry, policy in enumerate(policies, 1):
         name = policy.get("name") if isinstance(policy, dict) else None
         if isinstance(name, str) and seen.setdefault(name, entry) != entry:
             what = f"{shown(name)} is the name of policy {seen[name]} too"
-            faults.append(
-                TreeFault(NAME, (*path, entry, "name"), what, "write another name")
-            )
+            faults.append(TreeFault(NAME, (*path, entry, "name"), what))
     return faults
 
 
@@ -216,65 +185,11 @@ def _rules(version: int) -> Table:
         joint=_levels_faults,
         joint_of_list=_policies_faults,
     )
-    newer = {}
-    for name, since in formats.SINCE.items():
-        if since > version:
-            newer[name] = f"write version = {since}, which has {name}"
-    return Table(document, elsewhere=newer)
+    return Table(document)
 
 
-NEWEST = _rules(formats.VERSIONS[-1])
-JUDGES = {
-    version: Judge(_rules(version), NEWEST, says_both=True)
-    for version in formats.VERSIONS
-}
-
-
-def _advice_on_version() -> str:
-    """Returns what to write as the version, with the tables that each adds."""
-    first = formats.VERSIONS[0]
-    ways: list[str] = []
-    for version in formats.VERSIONS:
-        way = f"version = {version}"
-        added = [
-            key for key, since in formats.SINCE.items() if first < since == version
-        ]
-        if added:
-            way += f" with a table {' and '.join(added)}"
-        ways.append(way)
-    return f"write {', or '.join(ways)}, above the first table"
-
-
-def _place_text(path: Path, tree: Any) -> str:
-    """Returns a path in words; a policy has its name beside its number, where the tree has one."""
-    if not path:
-        return DOCUMENT
-    parts, rest = [DOCUMENT], path
-    if isinstance(NEWEST.keys.get(str(path[0])), Table):
-        parts, rest = [f"table {path[0]}"], path[1:]
-    if (
-        path[0] == "policy"
-        and rest
-        and isinstance(rest[0], int)
-        and isinstance(tree["policy"], list)
-    ):
-        parts, rest = [_policy_text(rest[0], tree["policy"][rest[0] - 1])], rest[1:]
-    for part in rest:
-        if isinstance(part, int):
-            parts.append(f"entry {part}")
-        else:
-            parts.append(f"key {part if part.isascii() else ascii(part)[1:-1]}")
-    return ", ".join(parts)
-
-
-def _policy_text(number: int, policy: Any) -> str:
-    """Returns the number of a policy, with its name if it has one, cut if that is long."""
-    name = policy.get("name") if isinstance(policy, dict) else None
-    if not isinstance(name, str):
-        return f"policy {number}"
-    text = ascii(name)[1:-1]
-    text = text if len(text) <= LONGEST_NAME else f"{text[:LONGEST_NAME]}..."
-    return f'policy {number} ("{text}")'
+RULES = {version: _rules(version) for version in formats.VERSIONS}
+NEWEST = RULES[formats.VERSIONS[-1]]
 
 
 def faults_of(tree: dict[str, Any]) -> list[TreeFault]:
@@ -282,16 +197,15 @@ def faults_of(tree: dict[str, Any]) -> list[TreeFault]:
     faults: list[TreeFault] = []
     version, known = tree.get("version"), formats.VERSIONS
     if "version" not in tree:
-        what = "the key version is missing"
-        faults.append(TreeFault(VERSION, (), what, _advice_on_version()))
+        faults.append(TreeFault(VERSION, (), "the key version is missing"))
     elif type(version) is not int or version not in known:
         what = f"{shown(version)} is not {' or '.join(map(str, known))}"
-        faults.append(TreeFault(VERSION, ("version",), what, _advice_on_version()))
+        faults.append(TreeFault(VERSION, ("version",), what))
     if type(version) is not int or faults:
         version = formats.version_with(tree)
-    faults += JUDGES[version].faults(tree)
+    faults += RULES[version].faults(tree)
     faults.sort(key=attrgetter("rule"))
-    return [fault._replace(where=_place_text(fault.path, tree)) for fault in faults]
+    return [fault._replace(where=place_text(fault.path, NEWEST)) for fault in faults]
 
 
 def read_scenario(data: bytes) -> tuple[Tree, list[TreeFault]]:
@@ -303,10 +217,9 @@ def error_of(faults: list[TreeFault], file: str = "") -> ScenarioError:
     """Returns the error with these faults of a file. Its text has the first 20."""
     named = [fault.fault(file) for fault in faults]
     lines = [str(fault) for fault in named[:MOST_SHOWN]]
+    lines[-1] += "; docs/FORMATS.md says what may stand there"
     if len(faults) > MOST_SHOWN:
-        lines.append(
-            f"and {len(faults) - MOST_SHOWN} more faults; crnplan why says all"
-        )
+        lines.append(f"and {len(faults) - MOST_SHOWN} more faults")
     return ScenarioError(named, "\n".join(lines))
 
 

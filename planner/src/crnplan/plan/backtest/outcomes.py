@@ -3,7 +3,7 @@
 Each policy is in use from the first period on. What happens before the later periods is not counted, but leaves a stock
 and orders on their way, as they are when a policy has been in use for long. It begins with nothing on order and a stock
 between its s and S, by chance, where its position mostly is in the long run. Lead times are drawn from a law. If an item
-is not reviewed in each period, it is in the first later one.
+is not reviewed in each period, it is in the first later one. Orders are rounded up to the packs of the item.
 """
 from __future__ import annotations
 
@@ -77,6 +77,7 @@ class Happened:
             lead.draws(random, periods),
             item.review,
             record,
+            item.bounds.pack,
         )
         self.start = float(random.random())
         self.rates = Rates(item.setup, 0, item.holding, item.backlog or Fraction(0))

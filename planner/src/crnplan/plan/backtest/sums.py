@@ -258,6 +258,11 @@ class Sums:
     orders: Mapping[str, float]
     drift: Estimate | None
 
+    @property
+    def met(self) -> Mapping[str, float]:
+        """Returns the share of demand that each method met at once."""
+        return {method: 1 - unmet.value for method, unmet in self.unmet.items()}
+
     @classmethod
     def of(cls, group: str, tests: Sequence[Backtest]) -> Sums:
         """Adds up tests."""

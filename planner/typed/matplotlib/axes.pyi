@@ -1,3 +1,0 @@
-from typing import Any
-
-class Axes(Any): ...  # type: ignore[misc]

@@ -1,3 +1,0 @@
-from typing import Any
-
-class Figure(Any): ...  # type: ignore[misc]
