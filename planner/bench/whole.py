@@ -45,7 +45,7 @@ class House(NamedTuple):
                 python,
                 "-m",
                 "crnplan",
-                "catalogue",
+                "plan",
                 *map(str, (case / "history.csv", case / "items.csv")),
                 "--out",
                 str(self.folder / ITEM),

@@ -6,7 +6,7 @@
 
 `made_shops.py` says what shops there are, and `sold_shops.py` those of real sales; no rule or number of crnplan was
 chosen by the made ones. Each has two tables, of
-movements by day up to the day of the plan, and of masters. `crnplan catalogue` plans them, at first alone and then
+movements by day up to the day of the plan, and of masters. `crnplan plan` plans them, at first alone and then
 `--after` the last plan. A simulator of this module applies the levels of the date: those of levels.csv, or of
 decisions.csv for items that have none there. Order of events: docs/DEFINITIONS.md. An item begins with a stock halfway
 from s to S in the first week that has a plan of it.
@@ -131,7 +131,7 @@ def planned(room: Path, shop: Shop, case: Case, week: int, last: Path | None) ->
     (room / "settings.toml").write_text(SETTINGS)
     out = room / f"plan {week}"
     words = [
-        *("catalogue", room / "sales.csv", room / "articles.csv", "--out", out),
+        *("plan", room / "sales.csv", room / "articles.csv", "--out", out),
         *("--to", day - timedelta(1), "--holding-rate", "20%", "--jobs", 1),
         *("--config", room / "settings.toml", *case.words),
         *(["--after", last] if last else []),

@@ -9,7 +9,7 @@ of the logarithm; each week a mean deviates by 5% more. Demand is negative binom
 `erratic` a size of 1.2. Items have a lead time of 2 weeks and a setup cost of 8 weeks of holding.
 
 Plans are from 104 or 156 weeks, and kept for the 52 that come: `flat` has one policy, `monthly` the levels of each month
-as `crnplan catalogue` has them in levels.csv. All items weigh alike. `fill` is the share of demand met at once, `peak`
+as `crnplan plan` has them in levels.csv. All items weigh alike. `fill` is the share of demand met at once, `peak`
 that in the quarter with the highest index; errors are over items and blocks of weeks. `stock` is the mean stock in weeks
 of demand. `at equal fill` is the mean stock by month beside the flat one if the nominal fill rate of each is raised until
 the wanted one comes, with an error over items. Seeds are fixed: [place of the season, of the demand, weeks, number].

@@ -5,7 +5,7 @@
 
 Sets, as far as packages of R are installed: `homes` sold by city and month, planned each three months from seven years on;
 `rides` from stations by week, and `counts` of cases of diseases by week that ask for 2 or more in the mean, planned each
-four weeks from three years on. Cities are one class, stations another, and each data set of cases one of its own. Both ways plan by the whole record so far, as `crnplan catalogue` does; `monthly`
+four weeks from three years on. Cities are one class, stations another, and each data set of cases one of its own. Both ways plan by the whole record so far, as `crnplan plan` does; `monthly`
 applies the levels of the month, and learns the season anew for each plan. `fair.py` says how ways are compared.
 """
 from __future__ import annotations

@@ -52,13 +52,13 @@ def catalogue(
     *words: str | Path,
     teachers: Sequence[str] = (),
 ) -> Answer:
-    """Runs `crnplan catalogue` on demand.csv for items with these names, by one process. Teachers have no plan."""
+    """Runs `crnplan plan` on demand.csv for items with these names, by one process. Teachers have no plan."""
     rows = [
         (TEACHER if name in teachers else MASTER).format(name, "AB"[place % 2])
         for place, name in enumerate(names)
     ]
     Path("items.csv").write_text(MASTERS + "".join(rows), "utf-8")
-    line = "catalogue demand.csv items.csv --config settings.toml --jobs 1 --out plan"
+    line = "plan demand.csv items.csv --config settings.toml --jobs 1 --out plan"
     return crnplan(*line.split(), *words)
 
 

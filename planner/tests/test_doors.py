@@ -15,7 +15,7 @@ from werkzeug.datastructures import MultiDict
 
 import crnplan as crn
 from crnplan.cli import known_words, options_of
-from crnplan.cli.catalogues import catalogue, words_of
+from crnplan.cli.catalogues import plan, words_of
 from crnplan.desk.settings import WORDS, faults_of, typed
 from crnplan.errors import Refused, spelt
 from crnplan.given import joined, taken
@@ -68,7 +68,7 @@ PLACE = re.compile(
 Outcome = tuple[str, Any]
 Door = Callable[[Word, Any, Path], dict[str, Any]]
 KNOWN = known_words()
-OPTIONS = {option.name for option in options_of("catalogue")}
+OPTIONS = {option.name for option in options_of("plan")}
 
 
 class KeptWords:
@@ -96,7 +96,7 @@ def by_call(word: Word, value: Any, folder: Path) -> dict[str, Any]:
 
 def by_option(word: Word, value: Any, folder: Path) -> dict[str, Any]:
     words = [word.flag] if word.kind.shape == FLAG else [word.flag, value]
-    asked = catalogue.make_context("catalogue", ["demand", "items", *words]).params
+    asked = plan.make_context("plan", ["demand", "items", *words]).params
     return meaning(words_of(asked, {}))
 
 

@@ -23,7 +23,7 @@ MARKER = "plan/crnplan-folder.txt"
 NAMES = """parts/mine.csv lock catalogue.sqlite catalogue.sqlite.part answers.sqlite decisions.csv state.json summary.txt
     00000.toml key_1.csv kept/answers.sqlite unfinished-0123456789abcdef/mine""".split()
 # The commands that keep a folder, with their words.
-CATALOGUE = "catalogue demand.csv items.csv --jobs 1 --out plan".split()
+CATALOGUE = "plan demand.csv items.csv --jobs 1 --out plan".split()
 REPORT = ["report", "plan"]
 KEEPING = pytest.mark.parametrize("words", [CATALOGUE], ids=lambda words: words[0])
 

@@ -80,7 +80,7 @@ def files(tmp_path: Path, monkeypatch: pytest.MonkeyPatch) -> Path:
 def test_words_of_commands(
     files: Path, crnplan: Command, words: str, text: str
 ) -> None:
-    line = f"catalogue demand.csv items.csv --check {words.replace('X', text)}"
+    line = f"plan demand.csv items.csv --check {words.replace('X', text)}"
     assert crnplan(*line.split()).refuses(text)
 
 
@@ -92,7 +92,7 @@ def test_settings_of_a_catalogue(
     files: Path, crnplan: Command, key: str, text: str
 ) -> None:
     (files / "crnplan.toml").write_text(f"[catalogue]\n{key} = {text}\n", "utf-8")
-    told = crnplan("catalogue", "demand.csv", "items.csv", "--check")
+    told = crnplan("plan", "demand.csv", "items.csv", "--check")
     assert told.refuses("crnplan.toml:2")
 
 

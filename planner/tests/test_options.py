@@ -28,8 +28,8 @@ def test_each_word_is_used() -> None:
         if not word.help and not (isinstance(word, Option) and word.positional)
     }
     assert unsaid == set()
-    assert len({word.flag for word in options_of("catalogue")}) == len(
-        COMMANDS["catalogue"]["options"]
+    assert len({word.flag for word in options_of("plan")}) == len(
+        COMMANDS["plan"]["options"]
     )
 
 
@@ -39,4 +39,4 @@ def test_references() -> None:
     assert "left_out" in option("today.table").choices
     with pytest.raises(KeyError):
         option("common.nothing")
-    assert "level" in table_of("common")
+    assert "jobs" in table_of("common")

@@ -30,7 +30,7 @@ NULL = os.makedev(1, 3)
 # The commands that write a file which the user names, with OUT in its place.
 EXAMPLE = f"{TOP}/examples/two_policies"
 WRITING = {
-    "catalogue": "catalogue demand.csv items.csv --check --rejects OUT.csv",
+    "catalogue": "plan demand.csv items.csv --check --rejects OUT.csv",
     "reports": f"run {EXAMPLE}.csv --replications 1 --out OUT.csv",
 }
 # Those that need the program, the first two also a plan.
@@ -133,7 +133,7 @@ def test_each_way_to_write_by_the_program(
 ) -> None:
     monkeypatch.setenv("CRNSIM", str(program))
     if "plan" in BY_PROGRAM[name]:
-        words = "catalogue demand.csv items.csv --jobs 1 --out plan"
+        words = "plan demand.csv items.csv --jobs 1 --out plan"
         assert crnplan(*words.split()).status == 0
     check_ways(crnplan, inputs, BY_PROGRAM[name])
 

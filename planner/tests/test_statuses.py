@@ -180,14 +180,14 @@ def test_control_characters_of_others(room: Path, crnplan: Command, evil: str) -
     Path(path).write_text("\n".join(lines), "utf-8")
     with (room / "items.csv").open("a", encoding="utf-8") as masters:
         masters.write(f"{evil},20,1,9,1,5,20,3\n")
-    told = crnplan("catalogue", path, *CATALOGUE[2:], "--anyway")
+    told = crnplan("plan", path, *CATALOGUE[2:], "--anyway")
     assert told.status == 0 and not CONTROL.search(told.output + told.errors), told
     found = (room / "plan/found.toml").read_text("utf-8")
     assert not CONTROL.search(found)
     assert tomllib.loads(found)
     for more in (
         ["run", path],
-        ["catalogue", path, evil, "--check"],
+        ["plan", path, evil, "--check"],
         [evil],
         ["report", "plan", "--item", evil + "?"],
     ):

@@ -15,7 +15,7 @@ from planner.tests.conftest import NOBODY, as_nobody, write_inputs
 
 TOP = Path(__file__).resolve().parents[2]
 SCENARIO = TOP / "examples/two_policies.toml"
-PLAN = "catalogue demand.csv items.csv --jobs 1 --out plan".split()
+PLAN = "plan demand.csv items.csv --jobs 1 --out plan".split()
 
 
 @pytest.fixture
@@ -134,7 +134,7 @@ def test_a_user_without_a_home(
 CLOSED = "<&- >&- 2>&-", ">&-", "2>&-", "2<items.csv", "2>/dev/full"
 # Commands that do their work, that end with no, and that are refused.
 COMMANDS = {
-    "check": ("catalogue demand.csv items.csv --check", 0),
+    "check": ("plan demand.csv items.csv --check", 0),
     "run -": ("run -", 2),
     "no option": ("run --nonsense", 2),
     "catalogue": (" ".join(PLAN), 0),

@@ -127,7 +127,7 @@ def test_bash_completes_the_words_of_the_program(
 
 @pytest.mark.parametrize(
     "words, found",
-    [(["crnplan", "ca"], "catalogue"), (["crnplan", "curve", "--clu"], "--cluster")],
+    [(["crnplan", "pl"], "plan"), (["crnplan", "curve", "--clu"], "--cluster")],
 )
 def test_bash_completes_the_words_of_crnplan(
     installed: Machine, words: list[str], found: str

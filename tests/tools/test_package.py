@@ -138,7 +138,7 @@ def check_commands(
     ) == (examples / "two_policies.csv").read_text("utf-8")
     case, plan = examples / "case", room / "plan"
     for words in (
-        ["catalogue", case / "history.csv", case / "items.csv", "--out", plan],
+        ["plan", case / "history.csv", case / "items.csv", "--out", plan],
         ["report", plan, "--item", "spare part"],
     ):
         ran = machine.run(commands / "crnplan", *words, **more)

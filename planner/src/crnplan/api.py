@@ -87,7 +87,7 @@ def take_tables(
         folder.take(part, READ)
 
 
-@judged("call", "catalogue", "common")
+@judged("call", "plan", "common")
 @taking(Reading, Settings, shown=COMMON)
 def plan(
     sales: Table | Catalogue,
@@ -214,7 +214,7 @@ def plan(
 
 @judged("common")
 def open_plan(folder: str | Path, *, program: str | Path | None = None) -> Plan:
-    """Returns the plan that is in a folder of `plan` or of `crnplan catalogue`.
+    """Returns the plan that is in a folder of `plan` or of `crnplan plan`.
 
     Parameters
     ----------

@@ -120,7 +120,7 @@ def write_backtest(
     return tests
 
 
-@judged("backtest", "call", "catalogue", "common")
+@judged("backtest", "call", "plan", "common")
 @taking(Reading, Settings, shown=COMMON)
 def backtest(
     sales: Table | Catalogue,

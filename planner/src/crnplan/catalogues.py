@@ -158,7 +158,7 @@ def stated_of(catalogue: Catalogue, more: Mapping[str, Any]) -> str:
     )
 
 
-@judged("call", "catalogue", "common")
+@judged("call", "plan", "common")
 @taking(Reading, shown=COMMON)
 def read_catalogue(
     demand: Table,

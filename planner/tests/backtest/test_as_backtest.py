@@ -101,7 +101,7 @@ def test_plans_as_the_test_found_best(
     own = room / kind
     tables, past = [own / "demand.csv", own / "items.csv"], own / "past"
     before = {path: path.read_bytes() for path in past.rglob("*") if path.is_file()}
-    plan = "catalogue", *tables, "--jobs", 1, "--program", program
+    plan = "plan", *tables, "--jobs", 1, "--program", program
     answer = crnplan(*plan, "--as-backtest", past, "--out", own / "as")
     assert answer.status == 0
     assert f"# planned as the backtest found best: {said}" in answer.errors

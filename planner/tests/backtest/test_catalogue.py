@@ -248,7 +248,7 @@ def test_planned_folder(
         tmp_path / "plan",
     )
     words = f"--out {out} --seed other --jobs 1 --program {program}"
-    crnplan("catalogue", *tables, *words.split())
+    crnplan("plan", *tables, *words.split())
     plan = (out / "decisions.csv").read_bytes()
     assert crnplan("backtest", out, *WORDS, "--jobs", 1).status == 0
     assert (out / "decisions.csv").read_bytes() == plan
@@ -264,7 +264,7 @@ def test_line_on_the_page_of_the_plan(
     """The page of a plan says how to get the line of its past, has that of the test in its folder, and says if that is
     of other rows."""
     tables, out, name = write(tmp_path, items), tmp_path / "plan", "report.html"
-    plan = "catalogue", *tables, "--out", out, "--jobs", 2, "--program", program
+    plan = "plan", *tables, "--out", out, "--jobs", 2, "--program", program
     (tmp_path / "crnplan.toml").write_text(
         "[catalogue]\nperiods = 64\nreplications = 4\n", "utf-8"
     )

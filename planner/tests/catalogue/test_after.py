@@ -82,7 +82,7 @@ def test_unchanged_items_are_not_planned(
     words["sales"].to_csv("demand.csv", index=False)
     masters.to_csv("items.csv", index=False)
     answer = crnplan(
-        "catalogue",
+        "plan",
         "demand.csv",
         "items.csv",
         "--to",
@@ -314,7 +314,7 @@ def test_rows_by_hand(old: Item, new: Item, reasons: list[Remark]) -> None:
 def test_least_gain_that_may_be_either(crnplan: Command) -> None:
     """A share is written with a percent sign, or as a decimal below 1."""
     answer = crnplan(
-        "catalogue",
+        "plan",
         "demand.csv",
         "items.csv",
         "--after",

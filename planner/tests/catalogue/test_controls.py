@@ -191,7 +191,7 @@ def test_controls_are_said(
     settings = '[catalogue]\nfit = "empirical"\nborrow = "none"\nperiods = 16\n'
     (tmp_path / "crnplan.toml").write_text(settings, "utf-8")
     words = "--where Location=Main --out plan --currency EUR --program".split()
-    answer = crnplan("catalogue", "demand-*.csv", "items.csv", *words, program)
+    answer = crnplan("plan", "demand-*.csv", "items.csv", *words, program)
     assert answer.status == 0, answer
     lines = [line.split() for line in answer.output.splitlines()]
     heading = ["file", "rows_are", "rows", "units", "value", "first", "last", "unread"]

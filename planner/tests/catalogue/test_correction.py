@@ -180,7 +180,7 @@ def plan_again(room: Path, out: str) -> list[Any]:
     settings = "[catalogue]\nperiods = 64\nreplications = 4\ncorrect = true\n"
     (room / "crnplan.toml").write_text(settings)
     common = ["--out", room / out, "--config", room / "crnplan.toml", *WORDS]
-    return ["catalogue", room / "demand.csv", room / "items.csv", *common]
+    return ["plan", room / "demand.csv", room / "items.csv", *common]
 
 
 def test_same_bytes_whatever_the_workers(

@@ -229,7 +229,7 @@ def test_bytes_and_what_is_kept(plan: Path, twenty: Path) -> None:
     )
     changed = drawn(plan).gathered
     remark = dict(changed.parts.left_out())["A-051"]
-    assert changed.new == 1 and advice(remark) == "run crnplan catalogue again"
+    assert changed.new == 1 and advice(remark) == "run crnplan plan again"
     assert sentence(remark) == "it is not planned as its rows are now"
 
 
@@ -336,7 +336,7 @@ def test_refused_words(
 
 def test_folders_without_a_plan(plan: Path, tmp_path: Path, crnplan: Command) -> None:
     told = crnplan("curve", tmp_path / "none")
-    said = "no plan is in it; run crnplan catalogue DEMAND.csv ITEMS.csv --out"
+    said = "no plan is in it; run crnplan plan DEMAND.csv ITEMS.csv --out"
     assert told.status == 2 and said in told.errors
     assert not (tmp_path / "none").exists()
     change(plan / ANSWERS, "UPDATE facts SET value = '{}' WHERE name = 'planned'")

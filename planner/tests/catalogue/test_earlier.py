@@ -184,7 +184,7 @@ def test_plans_of_others(earlier: Path, tmp_path: Path, program: Path) -> None:
     by_sql(ANSWERS, "ALTER TABLE answers RENAME COLUMN verdict TO outcome")(earlier)
     with pytest.raises(
         Refused,
-        match="another version of crnplan has planned it; run crnplan catalogue again",
+        match="another version of crnplan has planned it; run crnplan plan again",
     ):
         plan(after=earlier, program=program)
     shutil.copytree(earlier, tmp_path / "copy")
@@ -200,7 +200,7 @@ def test_plans_of_others(earlier: Path, tmp_path: Path, program: Path) -> None:
 def test_a_folder_of_an_older_version(tmp_path: Path, program: Path) -> None:
     """A folder with the files of a version that kept them beside the tables is to be planned anew."""
     (tmp_path / "answers.sqlite").touch()
-    said = "an older version of crnplan has planned it; run crnplan catalogue again"
+    said = "an older version of crnplan has planned it; run crnplan plan again"
     with pytest.raises(Refused, match=said):
         plan(after=tmp_path, program=program)
     with pytest.raises(Refused, match=said):

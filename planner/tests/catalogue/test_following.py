@@ -80,11 +80,11 @@ def test_command(room: Path, tmp_path: Path, crnplan: Command) -> None:
     words = "--every", "week", "--borrow", "none", "--config", config
     folder = tmp_path / "plan"
     follow = "--follow", "auto", "--jobs", 2
-    assert crnplan("catalogue", *tables, "--out", folder, *words, *follow).status == 0
+    assert crnplan("plan", *tables, "--out", folder, *words, *follow).status == 0
     for name in FILES:
         assert (folder / name).read_bytes() == (room / "plan" / name).read_bytes()
     assert 'follow = "auto"' in (folder / "found.toml").read_text()
-    ran = crnplan("catalogue", *tables, "--out", folder, *words, "--follow", "x")
+    ran = crnplan("plan", *tables, "--out", folder, *words, "--follow", "x")
     assert ran.status == 2
 
 

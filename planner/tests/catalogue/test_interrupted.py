@@ -35,7 +35,7 @@ from planner.tests.store.clusters import SECONDS, Cluster
 JOBS, FEW, PASSES = 2, 20, 17
 CURVE_TABLES = (CURVE, POLICIES, LEFT_OUT)
 PLAN, DRAW = [
-    "catalogue",
+    "plan",
     *WORDS,
     "--out",
     "plan",
@@ -296,14 +296,14 @@ def test_killed_after_an_earlier_plan(
     was done is kept, the bytes are those of a plan that was never interrupted, and the earlier folder is as it was.
     """
     earlier, path = folder / "earlier", folder / FILES[1]
-    go_on(["catalogue", *WORDS, "--out", earlier])
+    go_on(["plan", *WORDS, "--out", earlier])
     before = state_of(earlier)
     for name in ("go_on", "runs"):
         (folder / name).unlink()
     heading, first, *rows = path.read_text("utf-8").splitlines()
     others = [re.sub("^(.*?;.*?);.*?;", r"\1;33,50;", row) for row in rows]
     path.write_text("\r\n".join([heading, first, *others, ""]), "utf-8")
-    command = ["catalogue", *WORDS, "--after", "earlier", "--least-gain", "5%", "--out"]
+    command = ["plan", *WORDS, "--after", "earlier", "--least-gain", "5%", "--out"]
     process = start(JOBS, [*command, "plan"])
     wait_until(lambda: runs(folder) > PASSES)
     kill(process)
@@ -346,7 +346,7 @@ def test_interrupted_once_items_have_learned(
     """A plan whose items learn from one another has the same bytes in all files if it was interrupted after that, and
     the terminal alone says what was kept."""
     teaching(planted, [name_of(number) for number in range(34, 34 + FEW)]).write(folder)
-    words = "catalogue", *WORDS, *"--fit auto --borrow all --jobs 1 --program".split()
+    words = "plan", *WORDS, *"--fit auto --borrow all --jobs 1 --program".split()
     assert crnplan(*words, program, "--out", "whole").status == 0
     calls, plan_asked = itertools.count(), catalogue.plan_asked
 

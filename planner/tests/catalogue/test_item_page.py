@@ -171,14 +171,14 @@ REFUSED: dict[str, tuple[str, Callable[[Path], object], str]] = {
     "changed": (
         "A-040",
         forget,
-        "its plan is not as the rows that were read last; run crnplan catalogue again",
+        "its plan is not as the rows that were read last; run crnplan plan again",
     ),
     "no plan": (
         "A-040",
         lambda folder: (folder / ANSWERS).unlink(),
         "no plan is in it; run crnplan ",
     ),
-    "no folder": ("A-040", shutil.rmtree, "no plan is in it; run crnplan catalogue"),
+    "no folder": ("A-040", shutil.rmtree, "no plan is in it; run crnplan plan"),
 }
 
 

@@ -238,7 +238,7 @@ def plan(folder: Path, crnplan: Command, program: Path) -> Plan:
 
     def run(*words: str) -> Answer:
         common = "--out", "plan", "--jobs", "1", "--program", program
-        return crnplan("catalogue", *WORDS, *common, *words)
+        return crnplan("plan", *WORDS, *common, *words)
 
     return run
 

@@ -202,7 +202,7 @@ def test_same_bytes_by_two_processes(
         *files, out=tmp_path / "python", together=WANTED, program=program, **SETTINGS
     )
     config = "[catalogue]\nfit = 'empirical'\nborrow = 'none'\nperiods = 64\nreplications = 4\n"
-    words = ["catalogue", *files, "--program", program, "--jobs", 2, "--config"]
+    words = ["plan", *files, "--program", program, "--jobs", 2, "--config"]
     for name, more, options in (
         ("options", "", ["--together", "90%"]),
         ("key", "together = '90%'\n", []),

@@ -82,7 +82,7 @@ def test_another_window_learns_anew(
     Path("crnplan.toml").write_text(
         "[catalogue]\nperiods = 64\nreplications = 4\n", "utf-8"
     )
-    words = "catalogue", *tables, "--borrow", "all", "--jobs", 1, "--program", program
+    words = "plan", *tables, "--borrow", "all", "--jobs", 1, "--program", program
     assert crnplan(*words, "--out", "plan").status == 0
     told = [
         crnplan(*words, "--window", WINDOW, "--out", name)
@@ -128,10 +128,10 @@ def test_by_command_and_by_settings(
     (tmp_path / "crnplan.toml").write_text(
         "[catalogue]\nperiods = 64\nreplications = 4\n", "utf-8"
     )
-    assert crnplan("catalogue", *words, "--window", WINDOW, "--out", "one").status == 0
+    assert crnplan("plan", *words, "--window", WINDOW, "--out", "one").status == 0
     with (tmp_path / "crnplan.toml").open("a", encoding="utf-8") as file:
         file.write(f"window = {WINDOW}\n")
-    assert crnplan("catalogue", *words, "--out", "two").status == 0
+    assert crnplan("plan", *words, "--out", "two").status == 0
     names = "decisions.csv", "summary.txt", "report.html"
     assert [Path("one", name).read_bytes() for name in names] == [
         Path("two", name).read_bytes() for name in names

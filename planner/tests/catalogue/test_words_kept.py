@@ -95,7 +95,7 @@ def without(tmp_path_factory: pytest.TempPathFactory, program: Path) -> Path:
     """Returns a folder with the plan of the three tables without any word but those that make a run fast."""
     folder = written(tmp_path_factory.mktemp("without"))
     set_fast(folder)
-    command = [sys.executable, "-m", "crnplan", "catalogue", *FILES, "--out", "plan"]
+    command = [sys.executable, "-m", "crnplan", "plan", *FILES, "--out", "plan"]
     command += ["--config", "fast.toml", "--jobs", "1", "--program", str(program)]
     subprocess.run(command, cwd=folder, check=True, capture_output=True)
     return folder / "plan"
@@ -139,7 +139,7 @@ def test_found_given_back(
 
     def planned(out: str, config: str, *words: str) -> Answer:
         common = ["--out", out, "--config", config, "--program", program, "--jobs", 1]
-        return crnplan("catalogue", *FILES, *common, *words)
+        return crnplan("plan", *FILES, *common, *words)
 
     def change(file: str, old: str, new: str) -> None:
         text = (room / file).read_text("utf-8")
@@ -224,7 +224,7 @@ def test_today_reads_as_the_plan_did(
         'delimiter = ","\nstock = { stock = "Bestand (VE)" }\nunits = { "stock.stock" = "12" }\n',
     )
     words = "--out plan --config fast.toml --program".split()
-    answer = crnplan("catalogue", *FILES, *words, program)
+    answer = crnplan("plan", *FILES, *words, program)
     assert answer.status == 0
     Path("stock.csv").write_text("item,Bestand (VE),other\nA,0.5,4\nC,1,2\n", "utf-8")
 
@@ -256,5 +256,5 @@ def test_folder_of_an_older_version(
     with contextlib.closing(sqlite3.connect(f"old/{READ}")) as base, base:
         base.execute("DELETE FROM facts WHERE name = 'told'")
     answer = crnplan("today", "old", "--date", "2026-11-02")
-    said = "another version of crnplan has read it; run crnplan catalogue again"
+    said = "another version of crnplan has read it; run crnplan plan again"
     assert answer.status == 2 and said in answer.errors

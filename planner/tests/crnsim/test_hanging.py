@@ -31,7 +31,7 @@ COMMANDS = {
     "run": f"run {SCENARIO}",
     "where": "where",
     "long run": f"run {SCENARIO} --long-run",
-    "catalogue": "catalogue demand.csv items.csv --jobs 2 --out plan",
+    "catalogue": "plan demand.csv items.csv --jobs 2 --out plan",
 }
 
 

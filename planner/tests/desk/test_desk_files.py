@@ -299,7 +299,7 @@ def test_what_was_read_is_shown(planner: Planner) -> None:
     cells = re.findall(r'<td(?: class="left data")?>(.*?)</td>', controls)
     assert cells[:6] == ["0001-d.csv", "read", "10", "45", "-", "2026-01-05"], cells
     assert "0001-d.csv:11, item A: &#39;many&#39; is not a number" in page
-    assert "crnplan catalogue" in page and "--check" in page
+    assert "crnplan plan" in page and "--check" in page
     answer = planner.get("/files/rejects.csv")
     assert answer.headers["Content-Disposition"] == "attachment; filename=rejects.csv"
     heading, row = answer.text.splitlines()

@@ -48,7 +48,7 @@ def ordered(export: Export, folder: Path, crnplan: Command, program: Path) -> st
     planning = [*export.planning, "--out", plan]
     day = [*export.today, "--date", str(MONDAY), "--out", orders]
     files = export.demand, export.masters
-    planned = crnplan("catalogue", *files, *planning, "--program", program)
+    planned = crnplan("plan", *files, *planning, "--program", program)
     assert planned.status == 0, planned.errors
     listed = crnplan("today", plan, *day)
     assert listed.status == 0, listed.errors

@@ -40,7 +40,7 @@ def test_from_data_to_a_run_that_can_be_cited(
     used = "--program", program
     tables = case / "history.csv", case / "items.csv"
     for words in (
-        ["catalogue", *tables, "--out", out],
+        ["plan", *tables, "--out", out],
         ["report", out, "--item", PART],
         ["run", out / "scenario.toml", "--out", tmp_path / "report.csv"],
     ):

@@ -390,7 +390,7 @@ def test_bounds_of_a_catalogue(crnplan: Command, tmp_path: Path, program: Path) 
         for week, count in enumerate(SEEN[:40]):
             day = monday + datetime.timedelta(weeks=week)
             file.write(f"A,{day},{count}\nB,{day},{count}\n")
-    words = f"""catalogue {tmp_path}/demand.csv {tmp_path}/items.csv --out {tmp_path}/plan --config {tmp_path}/mine.toml
+    words = f"""plan {tmp_path}/demand.csv {tmp_path}/items.csv --out {tmp_path}/plan --config {tmp_path}/mine.toml
         --order-min 3 --s-min 2 --jobs 1 --program {program}"""
     answer = crnplan(*words.split())
     decisions = whole_rows(tmp_path / "plan")

@@ -227,7 +227,7 @@ def test_overrides_by_the_command(
     )
     files = tmp_path / "demand.csv", tmp_path / "items.csv"
     words = f"--overrides {tmp_path}/set.csv --out {tmp_path}/plan --jobs 1 --to {END} --program {program}"
-    assert crnplan("catalogue", *files, *words.split()).status == 0
+    assert crnplan("plan", *files, *words.split()).status == 0
     row = whole_rows(tmp_path / "plan")["A"]
     assert (row["s_override"], row["S_override"]) == ("5", "17")
     assert float(row["cost_override"]) > 0

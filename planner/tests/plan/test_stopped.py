@@ -322,7 +322,7 @@ def test_status_by_the_command(tmp_path: Path, crnplan: Command) -> None:
     for name, table in zip(("demand", "items"), tables_of(OUT="ZZ")):
         table.to_csv(tmp_path / f"{name}.csv", index=False)
     files = tmp_path / "demand.csv", tmp_path / "items.csv"
-    check = ["catalogue", *map(str, files), "--check"]
+    check = ["plan", *map(str, files), "--check"]
     words = "--status", "Z3=stopped", "--status", "ZZ=phase out", "--stopped"
     assert "items left out" not in crnplan(*check, *words, "as-stated").output
     assert "say what it means by --status ZZ=stopped" in crnplan(*check).output

@@ -221,9 +221,7 @@ def test_stock_of_the_masters(
     assert ends == [None, 8, 10]
     with contextlib.closing(sqlite3.connect(Path("plan") / READ)) as base, base:
         base.execute("UPDATE items SET setup = '99'")
-    said = (
-        "its plan is not as the rows that were read last; run crnplan catalogue again"
-    )
+    said = "its plan is not as the rows that were read last; run crnplan plan again"
     assert crnplan("today", "plan").refuses(said)
 
 
@@ -289,7 +287,7 @@ def test_plan_of_another_version(tmp_path: Path, crnplan: Command) -> None:
     made_folder(tmp_path / "plan", 12, has_curve=False)
     with contextlib.closing(sqlite3.connect(tmp_path / "plan" / ANSWERS)) as base, base:
         base.execute("ALTER TABLE answers RENAME COLUMN verdict TO outcome")
-    assert crnplan("today", tmp_path / "plan").refuses("run crnplan catalogue")
+    assert crnplan("today", tmp_path / "plan").refuses("run crnplan plan")
     with contextlib.closing(sqlite3.connect(tmp_path / "plan" / ANSWERS)) as base:
         assert base.execute("SELECT count(outcome) FROM answers").fetchone() == (12,)
 

@@ -73,7 +73,7 @@ def test_rejects_in_a_call_and_in_a_command(
     demand.to_csv(tmp_path / "demand.csv", index=False)
     masters.to_csv(tmp_path / "items.csv", index=False)
     crnplan(
-        "catalogue",
+        "plan",
         tmp_path / "demand.csv",
         tmp_path / "items.csv",
         "--check",

@@ -96,7 +96,7 @@ def check(crnplan: Command, tmp_path: Path, monkeypatch: pytest.MonkeyPatch) -> 
         table.unlink(missing_ok=True)
         words = f"--check --rejects {table} {words}"
         heard.update(items={}, currency="")
-        answer = crnplan("catalogue", path, tmp_path / "items.csv", *words.split())
+        answer = crnplan("plan", path, tmp_path / "items.csv", *words.split())
         return Read(answer, rows_of(table) if table.is_file() else [], **heard)
 
     monkeypatch.setattr(catalogues, "read_into", listen)
@@ -361,7 +361,7 @@ def test_two_exports_of_a_system_lead_to_a_plan(
     masters.write_text(sap["masters"].lstrip(), "cp1252")
     words = "--jobs 1 --negate --setup 45 --holding-rate 20% --fill 95%".split()
     words += ["--out", str(out), "--program", str(program)]
-    answer = crnplan("catalogue", demand, masters, *words)
+    answer = crnplan("plan", demand, masters, *words)
     assert answer.status == 0 and "saved: EUR " in answer.output
     assert "2 named = 2 planned + 0 left out" in answer.output
     bearing, ring = items_of(Catalogue(out / READ)).values()

@@ -141,7 +141,7 @@ def test_a_column_that_is_none(crnplan: Command, tmp_path: Path) -> None:
     demand, masters = tmp_path / "demand.csv", tmp_path / "items.csv"
     demand_of("A").to_csv(demand, index=False)
     masters_of({**MASTER, "stock group": "x"}).to_csv(masters, index=False)
-    words = ["catalogue", demand, masters, "--check"]
+    words = ["plan", demand, masters, "--check"]
     refused = crnplan(*words)
     said = "say --column 'items.stock=stock group' if it is, or --column items.stock= if it is not"
     assert refused.status == 2 and said in refused.errors.replace('"', "'")

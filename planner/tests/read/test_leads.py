@@ -168,7 +168,7 @@ def test_a_plan_by_receipts(
         if source == "config":
             words = ["--config", "mine.toml"]
         out = "--out", source, "--program", program
-        answer = crnplan("catalogue", *files, *words, *out)
+        answer = crnplan("plan", *files, *words, *out)
         assert answer.status == 0, answer.errors
         levels[source] = pd.read_csv(f"{source}/decisions.csv").s_chosen[0]
         assert ("receipts that are not used" in answer.output) == (source != "both")

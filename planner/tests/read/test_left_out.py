@@ -89,7 +89,7 @@ def test_the_command_ends_with_1(tmp_path: Path, crnplan: Command) -> None:
     for name, table in zip(names, tables_of(CASES["most"])):
         table.to_csv(tmp_path / name, index=False)
     files = *(tmp_path / name for name in names), "--check"
-    answer = crnplan("catalogue", *files)
+    answer = crnplan("plan", *files)
     assert answer.status == 1
     assert f"{LOST}; correct the files, or say --anyway" in answer.errors
-    assert crnplan("catalogue", *files, "--anyway").status == 0
+    assert crnplan("plan", *files, "--anyway").status == 0

@@ -96,13 +96,13 @@ def test_classes_are_by_the_demand_that_is_known() -> None:
 
 
 def test_the_command_takes_the_table(crnplan: Command, tmp_path: Path) -> None:
-    """`crnplan catalogue --out-of-stock FILE` reads it, and says its columns and what is unknown."""
+    """`crnplan plan --out-of-stock FILE` reads it, and says its columns and what is unknown."""
     demand = f"item,date,quantity\n{weekly([3, 1, 4] * 8)}"
     (tmp_path / "demand.csv").write_text(demand)
     (tmp_path / "items.csv").write_text(MASTERS)
     (tmp_path / "out.csv").write_text("item;fehlt ab;bis\nA;03.03.2026;16.03.2026\n")
     status, output, errors = crnplan(
-        *("catalogue", tmp_path / "demand.csv", tmp_path / "items.csv", "--check"),
+        *("plan", tmp_path / "demand.csv", tmp_path / "items.csv", "--check"),
         *("--out-of-stock", tmp_path / "out.csv"),
     )
     assert status == 0 and "[catalogue.out_of_stock]" in errors

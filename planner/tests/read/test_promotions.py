@@ -131,7 +131,7 @@ def test_wide_tables_have_no_marks() -> None:
 
 
 def test_the_command_states_the_column(crnplan: Command, tmp_path: Path) -> None:
-    """`crnplan catalogue` says which column it is, and how many periods it marks."""
+    """`crnplan plan` says which column it is, and how many periods it marks."""
     rows = [
         f"A,{day_of(week)},{week % 3 + 1},{'ja' * (week == 8)}" for week in range(26)
     ]
@@ -140,6 +140,6 @@ def test_the_command_states_the_column(crnplan: Command, tmp_path: Path) -> None
     )
     (tmp_path / "items.csv").write_text(MASTERS)
     files = tmp_path / "demand.csv", tmp_path / "items.csv"
-    status, _, errors = crnplan("catalogue", *files, "--check")
+    status, _, errors = crnplan("plan", *files, "--check")
     assert status == 0 and 'promotion = "Aktion"' in errors
     assert "items with promoted periods: 1, with 1 such" in errors

@@ -48,7 +48,7 @@ def read(folder: Path, data: bytes, **words: Any) -> crn.Catalogue:
 
 def check(folder: Path, data: bytes, words: dict[str, Any], wanted: Any) -> None:
     """Checks that a file has the wanted demand by period, or that some texts say what is wrong with it."""
-    with spelt(Spelling("catalogue")):
+    with spelt(Spelling("plan")):
         try:
             found = read(folder, data, **words)
         except crn.Refused as why:
@@ -160,7 +160,7 @@ def test_a_large_file(tmp_path: Path, clock: str) -> None:
         sys.executable,
         "-m",
         "crnplan",
-        "catalogue",
+        "plan",
         path,
         tmp_path / "items.csv",
     ]

@@ -348,14 +348,14 @@ def test_the_class_by_value_is_by_the_stated_mean() -> None:
 
 
 def test_the_command_takes_the_table(crnplan: Command, tmp_path: Path) -> None:
-    """`crnplan catalogue --laws FILE` reads it, and says its columns, and how many laws there are."""
+    """`crnplan plan --laws FILE` reads it, and says its columns, and how many laws there are."""
     demand = f"item,date,quantity\n{weekly([3, 1, 4] * 8, 'B')}"
     (tmp_path / "demand.csv").write_text(demand)
     master = MASTERS.splitlines()[1].removeprefix("A")
     (tmp_path / "items.csv").write_text(f"{MASTERS}B{master}\n")
     (tmp_path / "laws.csv").write_text("Artikel;Prognose;Varianz\nA;2,5;4,25\n")
     status, output, errors = crnplan(
-        *("catalogue", tmp_path / "demand.csv", tmp_path / "items.csv", "--check"),
+        *("plan", tmp_path / "demand.csv", tmp_path / "items.csv", "--check"),
         *("--laws", tmp_path / "laws.csv"),
     )
     assert status == 0 and 'mean = "Prognose"' in errors, errors

@@ -120,7 +120,7 @@ def test_gigabyte_without_a_line_end(tmp_path: Path) -> None:
     errors = tmp_path / "errors"
     # A small process starts and measures it: the memory that a process has before `exec` counts for the program too.
     words = [sys.executable, COST, "/dev/null", errors, sys.executable, "-m", "crnplan"]
-    words += ["catalogue", path, masters, "--check", "--out", tmp_path / "plan"]
+    words += ["plan", path, masters, "--check", "--out", tmp_path / "plan"]
     told = subprocess.run(words, capture_output=True, text=True, check=True)
     _, kilobytes, status = told.stdout.split()
     assert status == "2"

@@ -54,7 +54,7 @@ def files(tmp_path: Path) -> dict[str, Any]:
     demand_of("A", "B").to_csv(tmp_path / "demand.csv", index=False)
     masters_of(BARE, BARE).to_csv(tmp_path / "items.csv", index=False)
     orders_of({"A": [13, 14, 16]}).to_csv(tmp_path / "orders.csv", index=False)
-    words = ["catalogue", tmp_path / "demand.csv", tmp_path / "items.csv", "--check"]
+    words = ["plan", tmp_path / "demand.csv", tmp_path / "items.csv", "--check"]
     return {"words": words, "orders": ["--orders", tmp_path / "orders.csv"]}
 
 

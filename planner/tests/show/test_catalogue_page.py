@@ -299,7 +299,9 @@ def test_links_and_command(folder: Path, tmp_path: Path, crnplan: Command) -> No
     assert len(Page(folder / "report.html").items) == 60
     empty = tmp_path / "empty"
     empty.mkdir()
-    message = f"no plan is in it; run crnplan catalogue DEMAND.csv ITEMS.csv --out {empty} first"
+    message = (
+        f"no plan is in it; run crnplan plan DEMAND.csv ITEMS.csv --out {empty} first"
+    )
     assert crnplan("report", empty) == (
         2,
         "",
@@ -335,7 +337,7 @@ def test_lost_items_and_other_rows(folder: Path) -> None:
         )
     with pytest.raises(
         crn.Refused,
-        match="its plan is not as the rows that were read last; run crnplan catalogue",
+        match="its plan is not as the rows that were read last; run crnplan plan",
     ):
         crn.report(folder)
 

@@ -416,7 +416,7 @@ def test_no_way_to_a_cluster(
     if address == LOOPBACK:
         monkeypatch.setitem(sys.modules, "distributed", None)
     write_inputs(room)
-    words = "catalogue demand.csv items.csv --out plan --cluster"
+    words = "plan demand.csv items.csv --out plan --cluster"
     told = crnplan(*words.split(), address)
     assert told[:2] == (2, "")
     (line,) = (it for it in told.errors.splitlines() if it.startswith("crnplan: "))

@@ -33,7 +33,6 @@ for _threads in ("OMP_NUM_THREADS", "OPENBLAS_NUM_THREADS"):
     os.environ.setdefault(_threads, "1")
 
 INTERRUPTED = 130
-PLAN = "plan."  # before the name of a word of reading or planning, in help.toml
 STREAMS = "stdin", "stdout", "stderr"  # in the order of their numbers
 # The subcommands: the module of each, its help, and its options in order.
 COMMANDS: dict[str, dict[str, Any]] = tomllib.loads(
@@ -45,18 +44,17 @@ RETIRED: dict[str, str] = tomllib.loads(
 
 
 def options_of(command: str) -> list[Option | Word]:
-    """Returns the options of a command. A name without its table is that of an own option, or else of a common one; one of
-    `plan` is a word of reading or planning."""
+    """Returns the options of a command. A name without its table is that of an own option, else of a common one, else a word
+    of reading or planning."""
     options = list[Option | Word]()
     for name in COMMANDS[command]["options"]:
-        place = name
-        if name.startswith(PLAN):
-            options.append(known_words()[name.removeprefix(PLAN)])
-            continue
-        if "." not in name:
-            table = command if name in declared().get(command, ()) else "common"
-            place = f"{table}.{name}"
-        options.append(option(place))
+        tables = [it for it in (command, "common") if name in declared().get(it, ())]
+        if "." in name:
+            options.append(option(name))
+        elif tables:
+            options.append(option(f"{tables[0]}.{name}"))
+        else:
+            options.append(known_words()[name])
     return options
 
 
@@ -72,7 +70,7 @@ def known_words() -> Mapping[str, Word]:
 @dataclass
 class Spelling:
     """Spells arguments of the library as the options that have their names: of the subcommand that runs, else of
-    `crnplan catalogue`, since pages and tables tell what that has read.
+    `crnplan plan`, since pages and tables tell what that has read.
     """
 
     command: str = ""
@@ -80,7 +78,7 @@ class Spelling:
     def __call__(self, name: str, value: str) -> str:
         """Returns an argument as an option, perhaps with a value."""
         flag = f"--{name.replace('_', '-')}"
-        for command in filter(None, ("catalogue", self.command)):
+        for command in filter(None, ("plan", self.command)):
             for option in options_of(command):
                 if option.name == name and not getattr(option, "positional", False):
                     flag = option.flag
@@ -129,7 +127,7 @@ class Group(click.Group):
 @click.group(
     cls=Group,
     context_settings={"help_option_names": ["-h", "--help"], "max_content_width": 100},
-    epilog="Example: crnplan catalogue demand.csv items.csv --out plan",
+    epilog="Example: crnplan plan demand.csv items.csv --out plan",
 )
 @click.version_option(
     __version__, "-V", "--version", prog_name="crnplan", message="%(prog)s %(version)s"

@@ -45,7 +45,7 @@ KINDS = {
 
 
 @command()
-def catalogue(**asked: Any) -> int:
+def plan(**asked: Any) -> int:
     config = read_config(asked["config"])
     path = Path(asked["config"] or CONFIG)
     if path.is_file():

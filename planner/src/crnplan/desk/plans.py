@@ -50,7 +50,7 @@ def asked_commands(desk: Desk, out: str, after: str) -> str:
     overrides = desk.path / OVERRIDES
     planning = command_on(
         desk,
-        "catalogue",
+        "plan",
         overrides=overrides if overrides.is_file() else None,
         after=desk.path / after if after else None,
         out=desk.path / out,

@@ -54,7 +54,7 @@ from .totals import Totals
 
 ANSWERS = f"{IN_KEPT}answers.sqlite"
 PLANNED, TOTALS = "planned", "totals"  # facts beside the answers
-AGAIN = "run crnplan catalogue again"
+AGAIN = "run crnplan plan again"
 OLDER = "answers.sqlite"  # what an older version has kept beside the tables
 Decided = tuple[Item, Answer | Remark]
 
@@ -239,7 +239,7 @@ def check_earlier(after: Path | None, out: Path | None, settings: Settings) -> N
             raise no_plan(after)
         raise Refused(
             f"{after}: no plan is in it",
-            "name the folder of an earlier crnplan catalogue",
+            "name the folder of an earlier crnplan plan",
         )
 
 
@@ -299,7 +299,7 @@ def no_plan(path: Path) -> Refused:
         return Refused(f"{path}: an older version of crnplan has planned it", AGAIN)
     return Refused(
         f"{path}: no plan is in it",
-        f"run crnplan catalogue DEMAND.csv ITEMS.csv --out {path} first",
+        f"run crnplan plan DEMAND.csv ITEMS.csv --out {path} first",
     )
 
 
@@ -307,7 +307,7 @@ def no_plan(path: Path) -> Refused:
 def planned_folder(
     path: Path, index: Path | None = None, is_read: bool = False
 ) -> Iterator[PlannedFolder]:
-    """Opens a folder of `crnplan catalogue`, perhaps by a copy of its answers, or only to read them. Raises Refused if no
+    """Opens a folder of `crnplan plan`, perhaps by a copy of its answers, or only to read them. Raises Refused if no
     plan is in it, and Damaged."""
     index = index or path / ANSWERS
     if not (path / READ).is_file() or not index.is_file():

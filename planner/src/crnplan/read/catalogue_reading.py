@@ -71,7 +71,7 @@ class Catalogued:
         if not path.is_file():
             raise Refused(
                 f"{self.folder}: no catalogue was read into this folder",
-                "run crnplan catalogue first",
+                "run crnplan plan first",
             )
         self.base = sqlite3.connect(f"{path.absolute().as_uri()}?mode=ro", uri=True)
         if not is_known:
@@ -86,7 +86,7 @@ class Catalogued:
             if row is None:
                 raise Refused(
                     f"{self.folder}: another version of crnplan has read it",
-                    "run crnplan catalogue again",
+                    "run crnplan plan again",
                 )
             return json.loads(row[0])
 

@@ -395,7 +395,7 @@ def report(
     Parameters
     ----------
     folder : str or Path
-        That of `plan`, or of `crnplan catalogue`, in which the run has ended.
+        That of `plan`, or of `crnplan plan`, in which the run has ended.
     items : iterable of str, optional
         Items that get pages of their own first, below `items` in the folder, to which the table links. These need crnsim.
     orders : OrdersToday, optional
