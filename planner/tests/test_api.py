@@ -20,7 +20,7 @@ import pytest
 
 import crnplan as crn
 from crnplan import catalogues
-from crnplan.show.pictures import Picture
+from crnplan.drawing.pictures import Picture
 from crnplan.cli import COMMANDS, Spelling, group
 from crnplan.table import Result
 from planner.tests.conftest import (
@@ -347,7 +347,7 @@ def test_items_and_curve_of_a_plan(
     assert frame.loc["chosen", "run_difference"] == -row.run_saving
     assert "<html" in plan.item("K-102").page
     drawn = Mock()
-    monkeypatch.setattr("crnplan.show.pictures.trajectories_picture", drawn)
+    monkeypatch.setattr("crnplan.crnsim.pictures.trajectories_picture", drawn)
     assert plan.item("K-102").plot() is drawn.return_value
     policies, runs, initial = drawn.call_args.args
     assert (len(policies), len(runs), initial) == (2, 2, 7)

@@ -17,7 +17,8 @@ import crnplan as crn
 from crnplan.cli import known_words, options_of
 from crnplan.cli.catalogues import plan, words_of
 from crnplan.desk.settings import WORDS, faults_of, typed
-from crnplan.errors import Refused, spelt
+from crnplan.errors import Refused
+from crnplan.spelling import spelt
 from crnplan.given import joined, taken
 from crnplan.plan.settings import CONFIG, read_config
 from crnplan.read.columns import ROLES

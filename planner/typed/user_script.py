@@ -13,7 +13,7 @@ from crnplan.decide.verdicts import Decision
 from crnplan.plan.totals import Totals
 from crnplan.plan.what_ifs import Moves
 from crnplan.planned import Figures
-from crnplan.show.pictures import Picture
+from crnplan.drawing.pictures import Picture
 from crnplan.theory.suggestions import ByTheory, Suggestions
 
 Frame = pd.DataFrame

@@ -8,17 +8,9 @@ import math
 from collections.abc import Iterator, Sequence
 from typing import Any
 
-from crnplan.show.item_plots import HIGH
-from crnplan.show.page import (
-    OF_TODAY,
-    UNITS,
-    Line,
-    Plot,
-    Scale,
-    bars,
-    path_of,
-)
-from crnplan.show.pictures import Picture
+from crnplan.drawing.plots import HIGH
+from crnplan.drawing.plots import OF_TODAY, UNITS, Line, Plot, Scale, bars, path_of
+from crnplan.drawing.pictures import Picture
 
 NORMAL_95 = 1.959964
 MOST_Z, STEPS = 4, 2  # of the histogram, with so many bars for each unit of z

@@ -37,7 +37,7 @@ from .table import DataTable, Json, Result
 if TYPE_CHECKING:
     import pandas as pd
 
-    from .show.pictures import Picture
+    from .drawing.pictures import Picture
 
 
 @dataclass(frozen=True, eq=False, repr=False)
@@ -95,7 +95,7 @@ class Backtests(Result):
         Refused
             If no item was tested.
         """
-        from .show.pictures import Picture
+        from .drawing.pictures import Picture
 
         if self.tested.whole is None:
             raise Refused(first_line(None), "test longer records")

@@ -9,17 +9,20 @@ from pathlib import Path
 from typing import TYPE_CHECKING, Any, cast
 
 from .arguments import judged
-from .errors import CrnplanError, Failed, argument, worded
+from .errors import CrnplanError, Failed, argument
+from .spelling import worded
 from .given import COMMON, joined, taken, taking
 from .plan.how import Settings
 from .store.files import Folder, Room
+from .store.jobs import batched
 from .store.means import Means
-from .show.catalogue_page import FOUND, write_catalogue, write_tables
+from .show.catalogue_page import FOUND, MOST_ROWS, write_catalogue, writing_tables
 from .show.catalogue_tables import REJECTS, hardly_planned, rejects_of
 from .show.control_tables import controls_of
-from .show.page import rendered
+from .drawing.rendering import rendered
 from .plan.backtest.catalogue import settings_as
 from .plan.catalogue import planning
+from .plan.survey import Survey
 from .plan.totals import Totals
 from .read.catalogue_reading import (
     READ,
@@ -41,6 +44,8 @@ from .words import advised, sentence
 
 if TYPE_CHECKING:
     import pandas as pd
+
+ROWS_AT_ONCE = 100  # of the tables that are written side by side
 
 
 class Lost(Failed):
@@ -285,7 +290,10 @@ def plan_catalogue(
     with planning(folder, settings, means, after, again) as run:
         planned, work, learned = run.planned, run.work, run.remarks
         folder.write(REJECTS, rejects_of(planned.read.rejects()).lines)
-        survey = write_tables(folder, planned, run.answers)
+        survey = Survey(planned, MOST_ROWS)
+        with writing_tables(folder, planned) as write:
+            for decided in batched(survey.seen(run.answers), ROWS_AT_ONCE):
+                write(decided)
         run.keep_changes(folder)
         totals = survey.totals
         missing = missing_of(planned.counts, totals.answered)

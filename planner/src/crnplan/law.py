@@ -10,6 +10,7 @@ from operator import ge, mul
 from typing import TYPE_CHECKING, Any, TypeVar, cast
 
 from .arguments import judged
+from .drawing.pictures import Picture, law_picture
 from .errors import Refused
 from .formats import MOST_DEMAND, MOST_WEIGHT
 from .money import Number, exact, whole, whole_numbers
@@ -18,8 +19,6 @@ from .toml.documents import shown
 if TYPE_CHECKING:
     import numpy as np
     import pandas as pd
-
-    from .show.pictures import Picture
 
     from .chances import Floats, Whole
 
@@ -152,9 +151,7 @@ class Law:
 
     def plot(self) -> Picture:
         """Draws the chance of each value."""
-        from .show.pictures import law_picture
-
-        return law_picture(self)
+        return law_picture(self.values, self.weights, float(self.mean))
 
     @classmethod
     def of_shares(cls, shares: Mapping[int, Fraction]) -> Law:

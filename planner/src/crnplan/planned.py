@@ -46,7 +46,7 @@ if TYPE_CHECKING:
 
     from .crnsim.periods import Period
     from .curve.exchange_curve import Drawn
-    from .show.pictures import Picture
+    from .drawing.pictures import Picture
 
 
 @dataclass(frozen=True, eq=False, repr=False)
@@ -121,7 +121,7 @@ class PlannedItem(Result):
 
     def plot(self) -> Picture:
         """Draws stock, position and orders of today's and the chosen policy in one run."""
-        from .show.pictures import trajectories_picture
+        from .crnsim.pictures import trajectories_picture
 
         box = self.words.item.box
         policies: list[Policy] = []
@@ -412,7 +412,7 @@ class Plan(Result):
         Refused
             If no item has a policy today.
         """
-        from .show.pictures import savings_picture
+        from .drawing.pictures import savings_picture
 
         with planned_folder(self._folder) as folder:
             savings = {

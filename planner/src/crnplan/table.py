@@ -16,6 +16,7 @@ from functools import partial
 from typing import TYPE_CHECKING, Any, ClassVar, Literal
 
 from .errors import Refused
+from .money import Currency
 from .words import counted
 
 if TYPE_CHECKING:
@@ -95,8 +96,6 @@ class Column:
         percent."""
         if self.kind != "number" or self.shown and self.shown != MONEY:
             return self
-        from .money import Currency
-
         shown = SHOWN.get(self.unit, ",.2f")
         if MONEY in (self.written, self.shown):
             shown = f",.{Currency(currency).places}f"

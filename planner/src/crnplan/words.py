@@ -14,7 +14,7 @@ from functools import partial
 from pathlib import Path
 from typing import Any
 
-from .errors import argument, worded
+from .spelling import argument, worded
 from .formats import MOST_ITEMS
 from .remarks import Remark
 

@@ -11,7 +11,7 @@ from crnplan.plan.backtest.sums import Sums
 from crnplan.show import verdicts
 from crnplan.show.backtest_page import curve_plot, spread_plot
 from crnplan.show.backtest_tables import class_rows, first_line, past_line
-from crnplan.show.page import Scale, bars
+from crnplan.drawing.plots import Scale, bars
 from crnplan.show.verdicts import METHOD_WORDS
 from crnplan.plan.backtest.catalogue import Past
 from crnplan.plan.backtest.methods import CORRECTED, METHODS
@@ -50,7 +50,7 @@ def test_curves_by_hand() -> None:
 
 def test_each_method_has_a_line_of_its_own() -> None:
     """No two methods have one style of line, and the page has each."""
-    folder = Path(verdicts.__file__).with_name("templates")
+    folder = Path(verdicts.__file__).parents[1] / "templates"
     css = "".join((folder / it).read_text() for it in ("plots.css", "backtest.html"))
     styles = [METHOD_WORDS[method.code].style for method in METHODS]
     assert len({*styles}) == len(styles)

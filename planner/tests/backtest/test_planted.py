@@ -18,7 +18,7 @@ from crnplan.backtesting import Backtests
 from crnplan.demand.index import Index
 from crnplan.demand.learning import Prior
 from crnplan.demand.seasons import months_of
-from crnplan.errors import worded
+from crnplan.spelling import worded
 from crnplan.plan.backtest.as_tested import words_as
 from crnplan.plan.backtest.catalogue import TESTS, methods_of
 from crnplan.plan.backtest.estimates import Estimate

@@ -15,9 +15,10 @@ from crnplan import Plan, Policy, plan
 from crnplan.crnsim.periods import Period
 from crnplan.curve.parts import Point
 from crnplan.show.catalogue_page import ROWS_A_GROUP, file_name, file_of, report
-from crnplan.show.curves import exchange_plot
-from crnplan.show.page import Money
-from crnplan.show.pictures import Picture, savings_picture, trajectories_picture
+from crnplan.curve.pictures import exchange_plot
+from crnplan.drawing.rendering import Money
+from crnplan.drawing.pictures import Picture, savings_picture
+from crnplan.crnsim.pictures import trajectories_picture
 from planner.tests.browser.browser import Browser
 from planner.tests.catalogue.conftest import SETTINGS
 from planner.tests.conftest import shared

@@ -14,7 +14,7 @@ from crnplan.desk import server
 from crnplan.desk.front import PAGES, Front
 from crnplan.desk.kept import FILES, STATE, UNKNOWN, Begun
 from crnplan.errors import CrnplanError, Refused
-from crnplan.show.page import rendered
+from crnplan.drawing.rendering import rendered
 from planner.tests.desk.conftest import Planner, add_made_plan, file_of, opened
 from planner.tests.desk.monday import warehouses
 
@@ -156,7 +156,7 @@ def names_in(module: ModuleType) -> list[str]:
 
 
 def templates() -> list[Path]:
-    folder = Path(str(server.__file__)).parents[1] / "show/templates/desk"
+    folder = Path(str(server.__file__)).parents[1] / "templates/desk"
     return sorted(folder.glob("*.html"))
 
 

@@ -20,7 +20,7 @@ from planner.tests.desk.monday import warehouses
 DESK = Path(language.__file__).parent
 # Places of values that are English words, which another language may leave out.
 ENGLISH_VALUES = {"every", "period"}
-PAGES = DESK.parent / "show/templates/desk"
+PAGES = DESK.parent / "templates/desk"
 
 
 def flat(tree: Mapping[str, Any], before: str = "") -> Iterator[tuple[str, str]]:

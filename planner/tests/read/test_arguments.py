@@ -12,7 +12,8 @@ import pytest
 
 import crnplan as crn
 from crnplan import words
-from crnplan.errors import Refused, argument, as_python
+from crnplan.errors import Refused, argument
+from crnplan.spelling import as_python
 
 OPTION = re.compile(r"--[a-z]")
 OURS = ("read/*.py", "demand/**/*.py", "*words.*")

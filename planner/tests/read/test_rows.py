@@ -17,7 +17,7 @@ from hypothesis import given, strategies as st
 
 import crnplan as crn
 from crnplan.cli import Spelling
-from crnplan.errors import spelt, worded
+from crnplan.spelling import spelt, worded
 from planner.tests.read.catalogues import HEADING, MASTER, cases_of, items_of
 
 Day = datetime.date

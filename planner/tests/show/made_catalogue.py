@@ -16,7 +16,12 @@ from crnplan.demand.learning import Prior
 from crnplan.store.files import Folder, own_folder
 from crnplan.store.jobs import Workers
 from crnplan.law import Law
-from crnplan.show.catalogue_page import CATALOGUE_FILES, write_catalogue, write_tables
+from crnplan.show.catalogue_page import (
+    CATALOGUE_FILES,
+    MOST_ROWS,
+    write_catalogue,
+    writing_tables,
+)
 from crnplan.plan.answer import (
     CHEAPER,
     RUN,
@@ -113,8 +118,9 @@ def made_folder(
             its = PlannedFolder(path, read, answers, planned)
             if has_swings:
                 keep_made(folder, its)
-            tables = write_tables(folder, its, its.answers())
-            write_catalogue(folder, its, tables, (), ())
+            with writing_tables(folder, its) as write:
+                write([*its.answers()])
+            write_catalogue(folder, its, Survey.of(its, MOST_ROWS), (), ())
     return path
 
 

@@ -14,7 +14,7 @@ import pytest
 import crnplan as crn
 from crnplan.show.board import Board, Row
 from crnplan.show.catalogue_tables import reasons_of
-from crnplan.show.page import Money, Unit, rendered
+from crnplan.drawing.rendering import Money, Unit, rendered
 from crnplan.plan.answer import CHEAPER, DEARER, RUN, SAME, THEORY, Answer
 from crnplan.plan.catalogue import planned_folder
 from crnplan.plan.drawn import Estimate

@@ -21,7 +21,7 @@ from crnplan.store.files import own_folder
 from crnplan.show import catalogue_page
 from crnplan.show.catalogue_page import ITEM_COLUMNS, file_of
 from crnplan.show.catalogue_tables import reasons_of
-from crnplan.show.page import LARGE
+from crnplan.drawing.rendering import LARGE
 from crnplan.show.verdicts import VERDICTS
 from crnplan.plan.answer import (
     BOUNDED,

@@ -15,11 +15,12 @@ from hypothesis import example, given, strategies as st
 from crnplan.curve.parts import Point
 from crnplan.demand.fitting import fit_demand
 from crnplan.read.item import Item
-from crnplan.show.curves import curve_ends
+from crnplan.curve.pictures import curve_ends
 from crnplan.show.item_plots import history_plot
 from crnplan.show.law_words import source_words
-from crnplan.show import page
-from crnplan.show.page import UNITS, Scale, rendered, round_numbers, templates
+from crnplan.drawing import rendering
+from crnplan.drawing.plots import UNITS, Scale, round_numbers
+from crnplan.drawing.rendering import rendered, templates
 from planner.tests.conftest import cases_beside
 from planner.tests.show.page_reader import Page
 
@@ -172,7 +173,7 @@ def test_bars_of_a_long_history() -> None:
 @pytest.mark.parametrize("name, words, text", CASES["texts"])
 def test_texts(name: str, words: list[Any], text: str) -> None:
     """Numbers and shares are spelt so. A script has the source of Content Security Policy Level 3, section 8.4."""
-    assert getattr(page, name)(*words) == text
+    assert getattr(rendering, name)(*words) == text
 
 
 def test_page_allows_its_own_style_alone(tmp_path: Path) -> None:
@@ -196,5 +197,5 @@ def test_page_allows_its_own_style_alone(tmp_path: Path) -> None:
 
 
 def test_what_is_not_there_has_a_sign() -> None:
-    assert page.percent(None) == "-"
+    assert rendering.percent(None) == "-"
     assert source_words("A") == "the items of class A"

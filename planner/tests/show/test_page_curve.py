@@ -13,7 +13,7 @@ import pytest
 from hypothesis import given, strategies as st
 
 import crnplan as crn
-from crnplan.show.curves import clipped
+from crnplan.curve.pictures import clipped
 from crnplan.plan.answer import Answer
 from crnplan.plan.catalogue import ANSWERS
 from crnplan.store.stored import Store

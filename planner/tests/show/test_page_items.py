@@ -16,7 +16,7 @@ from crnplan.plan.totals import Totals
 from crnplan.read.item import NO_DEMAND, STOPPED, Item
 from crnplan.read.overrides import SET_LEVELS, Override
 from crnplan.remarks import Remark
-from crnplan.show.page import templates
+from crnplan.drawing.rendering import templates
 from planner.tests.planned_tables import whole_rows
 from planner.tests.show.made_catalogue import (
     made_folder,

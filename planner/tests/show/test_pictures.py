@@ -15,7 +15,8 @@ import pytest
 import crnplan as crn
 from crnplan.crnsim.periods import Period
 from crnplan.policies import Policy
-from crnplan.show.pictures import Picture, savings_picture, trajectories_picture
+from crnplan.drawing.pictures import Picture, savings_picture
+from crnplan.crnsim.pictures import trajectories_picture
 from planner.tests.conftest import shared
 from planner.tests.plan.items import several, tables_of
 

@@ -20,7 +20,8 @@ def test_what_is_kept(tmp_path: Path, monkeypatch: pytest.MonkeyPatch) -> None:
     monkeypatch.setattr(drawn, "MOST_TAKEN", 3)
     with planned_folder(made_folder(tmp_path / "plan", 40)) as folder:
         found, pairs = Survey.of(folder, 4), [*folder.answers()]
-        totals, backward = found.totals, Survey.of(folder, 4, reversed(pairs))
+        totals, backward = found.totals, Survey(folder, 4)
+        assert [*backward.seen(reversed(pairs))] == pairs[::-1]
         some = found.drawn
         assert backward.drawn == some
     compared = [

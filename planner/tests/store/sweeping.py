@@ -10,7 +10,8 @@ from typing import Any
 
 from crnplan.cli import Spelling
 from crnplan.crnsim.program import program_for, run_program
-from crnplan.errors import CrnplanError, spelt, worded
+from crnplan.errors import CrnplanError
+from crnplan.spelling import spelt, worded
 from crnplan.policies import Policy
 from crnplan.scenario import Scenario
 from crnplan.store.digests import digest_of

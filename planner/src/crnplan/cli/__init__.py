@@ -22,7 +22,8 @@ from typing import Any, TextIO
 import click
 
 from .. import __version__
-from ..errors import CrnplanError, Failed, Refused, escaped, spelt, worded
+from ..errors import CrnplanError, Failed, Refused
+from ..spelling import escaped, spelt, worded
 from ..store.files import faults_of
 from ..store.interrupts import heed_interrupt, heeding_interrupts
 from ..options import Option, declared, option
@@ -147,7 +148,7 @@ def group() -> None:
 
 def note(message: str) -> None:
     """Prints the lines of a message on standard error, with the options of the command for the arguments of the
-    library, or whatever stands for them in the block `errors.spelt`."""
+    library, or whatever stands for them in the block `spelling.spelt`."""
     for line in worded(message).splitlines():
         click.echo(f"crnplan: {line}", err=True)
 

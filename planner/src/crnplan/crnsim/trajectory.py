@@ -12,11 +12,12 @@ from collections.abc import Iterable, Sequence
 from dataclasses import astuple, dataclass, replace
 from fractions import Fraction
 from pathlib import Path
-from typing import TYPE_CHECKING, NamedTuple, overload
+from typing import NamedTuple, overload
 
 from ..arguments import judged
 from .. import formats
 from ..columns import columns_of
+from ..drawing.pictures import Picture
 from ..errors import ProgramError, Refused, argument
 from ..law import Law
 from ..policies import Policy
@@ -24,10 +25,8 @@ from ..scenario import Scenario
 from ..table import DataTable, Result
 from .periods import Past, Period, Rates, periods_of
 from .program import find_program, run_all
+from .pictures import trajectories_picture
 from .report import report_of
-
-if TYPE_CHECKING:
-    from ..show.pictures import Picture
 
 JOBS = 8  # runs at a time: each is short, so that starting it takes most of its time
 PERIODS_OF_BLOCK = 4
@@ -88,8 +87,6 @@ class Trajectories(Result, Sequence[list[Period]]):
 
     def plot(self) -> Picture:
         """Draws stock, position and orders, one policy below another."""
-        from ..show.pictures import trajectories_picture
-
         scenario = self.scenario
         return trajectories_picture(scenario.policies, self.runs, scenario.initial)
 

@@ -16,6 +16,8 @@ from typing import TYPE_CHECKING, Any, NamedTuple
 
 from ..arguments import judged
 from ..columns import columns_of
+from ..drawing.pictures import Picture
+from ..drawing.rendering import Money
 from ..store.files import own_folder
 from ..store.clusters import Scheduler
 from ..store.means import Means
@@ -34,11 +36,10 @@ from .exchange import Items
 from .gathered import Gathered, gather
 from .parts import Choice, Point
 from .past import CurvePast
+from .pictures import exchange_plot
 
 if TYPE_CHECKING:
     import pandas as pd
-
-    from ..show.pictures import Picture
 
 CURVE, POLICIES, LEFT_OUT = "curve.csv", "curve_policies.csv", "curve_left_out.csv"
 
@@ -224,10 +225,6 @@ class Drawn(Result):
 
     def plot(self) -> Picture:
         """Draws the curve with its named points."""
-        from ..show.curves import exchange_plot
-        from ..show.page import Money
-        from ..show.pictures import Picture
-
         line = [("", point) for _, point in self.curve]
         money = Money(self.currency.code, self.currency.decimals)
         return Picture.of([exchange_plot([*self.named.items(), *line], money)])

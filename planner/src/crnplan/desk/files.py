@@ -11,7 +11,8 @@ from flask import Blueprint, Response, redirect, request
 from werkzeug.wrappers import Response as Redirect
 
 from ..catalogues import Catalogue
-from ..errors import CrnplanError, Refused, worded
+from ..errors import CrnplanError, Refused
+from ..spelling import worded
 from ..read.amounts import AMOUNTS
 from ..read.blocks import DATES
 from ..read.columns import COUNTED, ROLES

@@ -11,11 +11,12 @@ from typing import Any, TypeVar, cast
 
 from flask import Response, current_app, request, send_from_directory
 
-from ..errors import CrnplanError, Refused, argument, spelt
+from ..errors import CrnplanError, Refused, argument
+from ..spelling import spelt
 from ..plan.catalogue import PlannedFolder, planned_folder
 from ..planned import Plan
 from ..read.catalogue_reading import CATALOGUE
-from ..show.page import rendered
+from ..drawing.rendering import rendered
 from ..store.files import IN_KEPT, read_folder
 from ..toml.documents import shown
 from .kept import LOOK, PLANNED, PLANS, TESTS, Begun, Desk

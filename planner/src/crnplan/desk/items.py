@@ -18,7 +18,7 @@ from ..plan.what_ifs import asked_figures
 from ..read.amounts import share_of
 from ..read.item import Item
 from ..show.item_page import item_facts
-from ..show.page import rendered
+from ..drawing.rendering import rendered
 from ..vocabulary import read_argument
 from .front import Front, command_of, front, page, whole_of
 from .kept import Override

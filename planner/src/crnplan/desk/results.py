@@ -28,7 +28,7 @@ from ..show.catalogue_tables import (
     Decision,
     decided,
 )
-from ..show.page import rendered
+from ..drawing.rendering import rendered
 from ..show.verdicts import VERDICTS
 from ..store.digests import digest_of
 from ..store.files import IN_KEPT

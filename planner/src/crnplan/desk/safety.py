@@ -21,7 +21,7 @@ from werkzeug.datastructures import Headers
 from werkzeug.exceptions import RequestEntityTooLarge
 from werkzeug.sansio.request import Request as Head
 
-from ..show.page import rendered
+from ..drawing.rendering import rendered
 
 MOST_UPLOAD = 2_000_000_000  # bytes of a request
 MOST_FORM = 4_000_000  # bytes of the fields of a form that are no files

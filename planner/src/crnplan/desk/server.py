@@ -19,8 +19,9 @@ from flask import Flask, redirect
 from werkzeug.exceptions import HTTPException
 from werkzeug.wrappers import Response
 
-from ..errors import CrnplanError, Failed, spelt
-from ..show.page import rendered
+from ..errors import CrnplanError, Failed
+from ..spelling import spelt
+from ..drawing.rendering import rendered
 from ..store.files import IN_KEPT, Busy, Folder, own_folder
 from ..store.interrupts import heed_interrupt
 from . import files, items, orders, past, plans, results, settings

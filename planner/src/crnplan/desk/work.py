@@ -20,7 +20,8 @@ from pathlib import Path
 from typing import Any
 
 import crnplan as crn
-from ..errors import CrnplanError, spelt
+from ..errors import CrnplanError
+from ..spelling import spelt
 from ..read.catalogue_reading import CATALOGUE
 from ..store.files import MARKER, own_folder
 from ..store.interrupts import heed_interrupt, heeding_interrupts

@@ -18,7 +18,8 @@ from ..demand import EMPIRICAL
 from ..demand.checks import remarks_of as checked
 from ..demand.fitted import FittedLaw
 from ..demand.learning import Prior
-from ..errors import Refused, worded
+from ..errors import Refused
+from ..spelling import worded
 from ..formats import MOST_DEMAND
 from ..read.item import ENDED, NEW, NO_DEMAND, Item
 from ..remarks import Remark, Value

@@ -51,15 +51,10 @@ class Survey:
         )
 
     @classmethod
-    def of(
-        cls,
-        folder: PlannedFolder,
-        most: int = 0,
-        answers: Iterable[Decided] | None = None,
-    ) -> Survey:
-        """Returns what all items of a folder come to, whose answers are perhaps given."""
+    def of(cls, folder: PlannedFolder, most: int = 0) -> Survey:
+        """Returns what all items of a folder come to."""
         survey = cls(folder, most)
-        for _ in survey.seen(folder.answers() if answers is None else answers):
+        for _ in survey.seen(folder.answers()):
             pass
         return survey
 

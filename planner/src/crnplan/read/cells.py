@@ -15,7 +15,7 @@ from typing import Any, Union
 import numpy as np
 import numpy.typing as npt
 
-from ..errors import worded
+from ..spelling import worded
 from ..remarks import Remark, Value
 from ..words import message
 

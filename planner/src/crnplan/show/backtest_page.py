@@ -11,16 +11,8 @@ from ..plan.backtest.methods import KEPT, REFITTED, SEASONAL, SMOOTHED
 from ..plan.backtest.sums import BLOCK, Group, Sums, moves_of, sides_of, summed
 from ..read.item import Item
 from .backtest_tables import class_rows, first_line, side_rows
-from .page import (
-    Line,
-    Plot,
-    Scale,
-    bars,
-    marks_of,
-    path_of,
-    percent,
-    rendered,
-)
+from ..drawing.plots import Line, Plot, Scale, bars, marks_of, path_of
+from ..drawing.rendering import percent, rendered
 from .verdicts import METHOD_WORDS, gains_said, past_said
 
 MOST_WORST = 12

@@ -15,7 +15,7 @@ from ..remarks import Remark
 from ..table import Column, DataTable, aligned
 from ..words import advised, counted
 from ..columns import columns_of
-from .page import met, number, percent, points, rendered
+from ..drawing.rendering import met, number, percent, points, rendered
 from .verdicts import GAIN, METHOD_WORDS, gains_said, less_said, past_said
 
 BACKTEST, SUMS, SUMMARY, PAGE = (

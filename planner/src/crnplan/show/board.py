@@ -15,7 +15,8 @@ from ..plan.survey import Survey
 from ..plan.totals import Totals
 from ..plan.swings import LEAST_ERROR, CaseSum, Swings, kept_swings
 from ..read.columns import periods_a_year
-from .page import Money, Scale, Unit
+from ..drawing.rendering import Money, Unit
+from ..drawing.plots import Scale
 
 MOST_CLASSES = 6
 ALL, NO_CLASS = "all", "no class"

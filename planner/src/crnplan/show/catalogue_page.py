@@ -2,10 +2,11 @@
 writes all that a plan exports. None of it is read again, but by people."""
 from __future__ import annotations
 
+import contextlib
 import itertools
 import math
 from collections import Counter
-from collections.abc import Iterable, Iterator, Mapping, Sequence
+from collections.abc import Callable, Iterable, Iterator, Mapping, Sequence
 from pathlib import Path
 from typing import NamedTuple, SupportsIndex
 from urllib.parse import quote
@@ -17,7 +18,6 @@ from ..curve.exchange_curve import kept_curve, said_of
 from ..store.digests import sha256
 from ..store.files import Folder, own_folder
 from ..store.clusters import Scheduler
-from ..store.jobs import batched
 from ..store.means import Means
 from ..plan.answer import CHOSEN, TODAY, Answer
 from ..plan.backtest.catalogue import past_of
@@ -50,11 +50,12 @@ from .catalogue_tables import (
 from .change_tables import CHANGES, change_lines, changes_of, moved_rows
 from ..columns import declared
 from .control_tables import controls_of
-from .curves import exchange_plot
+from ..curve.pictures import exchange_plot
 from .item_page import ItemWords, item_page, scenario_text
 from .lateness import LATENESS, lateness_of
 from .promise_tables import aims_of, costs_of, together_of
-from .page import Money, Scale, rendered
+from ..drawing.rendering import Money, rendered
+from ..drawing.plots import Scale
 from .today_tables import OrdersToday, orders_by_masters
 from .verdicts import VERDICTS
 
@@ -63,7 +64,6 @@ SCENARIO = "scenario.toml"  # of the run of a plan's only item
 CATALOGUE_FILES = (DECISIONS, DETAILS, REJECTS, SUMMARY, PAGE, FOUND)
 ITEMS = "items"  # the folder of their pages
 MOST_ROWS = 5_000  # items in the table
-ROWS_AT_ONCE = 100  # of the tables that are written side by side
 ROWS_A_GROUP = 45  # which are laid out together; the first group is printed
 MOST_SAVINGS = 15
 MOST_REASONS = 12  # of each kind
@@ -139,6 +139,7 @@ def catalogue_page(
     rows = shown_items(survey.greatest, folder.currency.digits)
     shown_curve = curve or known_points(survey.totals, folder.settings)
     plot = exchange_plot(shown_curve, money) if shown_curve else None
+    named = [point for name, point in shown_curve if name]
     return rendered(
         "catalogue.html",
         {
@@ -153,6 +154,7 @@ def catalogue_page(
             "moved": moved_rows(folder),
             "most_reasons": MOST_REASONS,
             "plot": plot,
+            "points": zip(named, plot.points if plot else ()),
             "curve": curve,
             "verdicts": VERDICTS,
             **board_facts(folder, survey),
@@ -290,27 +292,22 @@ def file_of(folder: Path, name: str) -> Path:
     return folder / ITEMS / file_name(name)
 
 
-def tabled(
-    folder: Folder, planned: PlannedFolder, answers: Iterable[Decided]
-) -> Iterator[Decided]:
-    """Yields items with their answers, and writes them into the tables of decisions and of details."""
-    nothing = list[Decided]()
+@contextlib.contextmanager
+def writing_tables(
+    folder: Folder, planned: PlannedFolder
+) -> Iterator[Callable[[Sequence[Decided]], None]]:
+    """Writes the tables of decisions and of details within the block: by the function that it gives, which takes some items
+    with their answers."""
     with folder.writing(DECISIONS) as decisions, folder.writing(DETAILS) as details:
         tables = (decisions, decisions_of), (details, details_of)
-        for file, table_of in tables:
-            file.writelines(table_of(planned, nothing).lines)
-        for pairs in batched(answers, ROWS_AT_ONCE):
+
+        def write(decided: Sequence[Decided], first: int = 1) -> None:
             for file, table_of in tables:
-                lines = table_of(planned, pairs).lines
-                file.writelines(itertools.islice(lines, 1, None))
-            yield from pairs
+                lines = table_of(planned, decided).lines
+                file.writelines(itertools.islice(lines, first, None))
 
-
-def write_tables(
-    folder: Folder, planned: PlannedFolder, answers: Iterable[Decided]
-) -> Survey:
-    """Writes the tables of all items of a catalogue as they are planned, and returns what they come to."""
-    return Survey.of(planned, MOST_ROWS, tabled(folder, planned, answers))
+        write([], 0)
+        yield write
 
 
 def write_catalogue(

@@ -17,7 +17,7 @@ from ..table import DataTable
 from ..words import advice, counted, pattern, sentence
 from ..columns import columns_of
 from .control_tables import controls_of
-from .page import rendered
+from ..drawing.rendering import rendered
 from .promise_tables import aims_of, costs_of, together_of
 
 if TYPE_CHECKING:

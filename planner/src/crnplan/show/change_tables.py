@@ -10,7 +10,7 @@ from ..plan.changes import DAMPED, KINDS, MOVED, Change, ChangeSums
 from ..table import DataTable
 from .catalogue_tables import codes_of, words_of
 from ..columns import columns_of
-from .page import rendered
+from ..drawing.rendering import rendered
 
 CHANGES = "changes.csv"
 MOST_MOVED = 15

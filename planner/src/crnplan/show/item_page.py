@@ -26,7 +26,8 @@ from .catalogue_tables import DECISION_COLUMNS, DETAIL_COLUMNS, Decision
 from ..columns import columns_of
 from .item_plots import ALONE, history_plot, law_plot, season_plot, stock_plot
 from .law_words import law_said, law_words
-from .page import Scale, capital, number, rendered, templates
+from ..drawing.plots import Scale
+from ..drawing.rendering import capital, number, rendered, templates
 from .verdicts import VERDICTS
 
 WIDTH = 80  # of a line of the summary, in letters, but for its table

@@ -10,26 +10,24 @@ from ..demand.seasons import months_of
 from ..plan.item import Depth
 from ..read.dates import period_name
 from ..read.item import Item
-from .page import (
+from ..drawing.plots import (
+    HIGH,
+    MEAN,
     OF_CHOSEN,
     OF_TODAY,
-    UNITS,
     Line,
     Plot,
     Scale,
     bars,
-    capital,
     marks_of,
-    number,
-    tick,
+    steps,
 )
+from ..drawing.rendering import capital, number, tick
 
 ALONE = "the law of this item alone"
 MOST_BARS = 520
 UNKNOWN = "; what is grey is not known"
-# The classes of lines of the law of a period's demand (its mean, and what 99 of 100 periods do not exceed), and of the
-# law of the item alone.
-MEAN, HIGH, OF_ALONE = "of-mean", "of-high", "of-alone"
+OF_ALONE = "of-alone"  # the class of lines of the law of the item alone
 Counts = Sequence[tuple[int, int]]  # values with their weights
 
 
@@ -174,14 +172,6 @@ def law_plot(depth: Depth, every: str) -> Plot:
         across=f"{things} that a {every} asks for, at least",
         lines=[law.line(across, scale) for law in laws],
     )
-
-
-def steps(name: str, css: str, heights: Sequence[float], scale: Scale) -> Line:
-    """Returns a line with a step for each period."""
-    path = f"M0 {scale.down(heights[0]):g}"
-    for place, height in enumerate(heights, 1):
-        path += f"V{scale.down(height):g}H{UNITS * place / len(heights):g}"
-    return Line(name, css, path)
 
 
 def season_plot(depth: Depth, every: str) -> Plot | None:

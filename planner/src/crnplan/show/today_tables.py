@@ -37,7 +37,7 @@ from .catalogue_tables import (
 )
 from ..columns import columns_of
 from .control_tables import CONTROL_COLUMNS, controls_of
-from .page import rendered
+from ..drawing.rendering import rendered
 from .today_rows import CELLS, GroupRow, Row, UnknownRow, supplier_file
 
 if TYPE_CHECKING:

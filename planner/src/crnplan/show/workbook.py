@@ -35,7 +35,7 @@ from .catalogue_tables import (
 )
 from .change_tables import change_lines
 from ..columns import columns_of
-from .curves import AXIS, BLUE, LINE, MARKERS, SERVICE, TITLE, curve_ends
+from ..curve.pictures import AXIS, BLUE, LINE, MARKERS, SERVICE, TITLE, curve_ends
 from .lateness import lateness_of
 from .today_tables import WITHOUT, OrdersToday, orders_by_masters
 

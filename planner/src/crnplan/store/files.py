@@ -27,7 +27,8 @@ from pathlib import Path
 from typing import IO, Any, NoReturn
 
 from .digests import sha256
-from ..errors import Failed, Refused, escaped
+from ..errors import Failed, Refused
+from ..spelling import escaped
 
 MARKER = "crnplan-folder.txt"
 SIGNATURE = "crnplan folder, version 1: {kind}. Only the files named below are overwritten or removed by crnplan."

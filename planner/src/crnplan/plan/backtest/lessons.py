@@ -11,7 +11,8 @@ from typing import Any
 from ...demand import AUTO
 from ...demand.learning import Prior
 from ...demand.seasons import CALENDAR, YEARS
-from ...errors import Refused, worded
+from ...errors import Refused
+from ...spelling import worded
 from ...read.catalogue_reading import Catalogued
 from ...read.item import UNORDERED, WEIGHED, Item
 from ...remarks import Remark

@@ -4,17 +4,11 @@ from __future__ import annotations
 from collections.abc import Iterable, Sequence
 from typing import Any, NamedTuple
 
-from ..curve.parts import Point
-from .page import (
-    OF_CHOSEN,
-    Line,
-    Money,
-    NamedPoint,
-    Plot,
-    Scale,
-    path_of,
-    percent,
-)
+import numpy as np
+
+from ..drawing.plots import OF_CHOSEN, Line, NamedPoint, Plot, Scale, path_of
+from ..drawing.rendering import Money, percent
+from .parts import Point
 
 TITLE = "How much service the stock can give for its value"
 AXIS, SERVICE, LINE = (
@@ -68,8 +62,6 @@ def clipped(
 ) -> list[tuple[float, float]]:
     """Returns the part of a rising curve up to a value and above a share, with the points where it crosses these. One
     point is left of a curve that lies elsewhere."""
-    import numpy as np
-
     values, shares = np.array(sorted(points)).T
     places = np.unique(np.clip(values, np.interp(bottom, shares, values), right))
     return [*zip(places.tolist(), np.interp(places, values, shares).tolist())]
@@ -94,7 +86,7 @@ def exchange_plot(curve: Sequence[tuple[str, Point]], money: Money) -> Plot:
         said = f"{name}: {met} met at once with a stock of {stock}"
         x, y = round(across.at(value) / 10, 2), round(100 - up.at(share) / 10, 2)
         form = MARKERS[number].path
-        points.append(NamedPoint(name, point, said, f"point-{number}", form, x, y))
+        points.append(NamedPoint(name, said, f"point-{number}", form, x, y))
     title, lines = "Demand met at once against the value of the stock", []
     line = [place(point) for name, point in curve if not name]
     if line:

@@ -8,23 +8,9 @@ from dataclasses import dataclass, field
 from pathlib import Path
 from typing import NamedTuple
 
-from ..crnsim.periods import Period
-from ..law import Law
-from ..policies import Policy
 from ..store.files import named_bytes
-from .item_plots import HIGH, MEAN, steps
-from .page import (
-    OF_CHOSEN,
-    UNITS,
-    Line,
-    Mark,
-    Plot,
-    Scale,
-    marks_of,
-    path_of,
-    rendered,
-    templates,
-)
+from .plots import OF_CHOSEN, UNITS, Line, Mark, Plot, Scale
+from .rendering import rendered, templates
 
 # In pixels: of a picture and of a plot; of a line of a legend, or a row; above all plots; above and below each.
 WIDTH, HEIGHT, LINE = 760, 280, 22
@@ -109,10 +95,6 @@ def style() -> str:
     return re.sub(r"var\(--(\w+)\)", lambda name: colours[name[1]], "\n".join(both))
 
 
-def name_of(policy: Policy) -> str:
-    return f"{policy.name} ({policy.s}, {policy.S})"
-
-
 def rows_of(names: Iterable[str]) -> list[Mark]:
     """Returns the middles of rows, the first at the top, with their names."""
     shown = [
@@ -124,15 +106,15 @@ def rows_of(names: Iterable[str]) -> list[Mark]:
     ]
 
 
-def law_picture(law: Law) -> Picture:
-    """Draws the chance of each value of a law."""
-    total = sum(law.weights)
-    chances = [100 * weight / total for weight in law.weights]
-    up, across = Scale.of(chances, sign="%"), Scale.of(law.values, is_whole=True)
+def law_picture(values: Sequence[int], weights: Sequence[int], mean: float) -> Picture:
+    """Draws the chance of each value of a law with these weights and this mean."""
+    total = sum(weights)
+    chances = [100 * weight / total for weight in weights]
+    up, across = Scale.of(chances, sign="%"), Scale.of(values, is_whole=True)
     path = ""
-    for value, chance in zip(law.values, chances):
+    for value, chance in zip(values, chances):
         path += f"M{across.at(value):g} {UNITS}V{up.down(chance):g}"
-    title = f"Law of chances with mean {float(law.mean):,.4g}"
+    title = f"Law of chances with mean {mean:,.4g}"
     lines = [Line("", f"stem {OF_CHOSEN}", path)]
     plot = Plot(title, title, up.heights, across.marks, "items or periods", lines)
     return Picture.of([plot])
@@ -158,46 +140,3 @@ def savings_picture(savings: Mapping[str, float], money: str) -> Picture:
 def upright(place: float, top: float = 0, height: float = UNITS) -> str:
     """Returns the path of a line across a picture, or a part of one, from the top down."""
     return f"M{place:g} {top:g}v{height:g}"
-
-
-def position_points(
-    periods: Sequence[Period], initial: int
-) -> list[tuple[float, float]]:
-    """Returns the position from review to review: it rises by what is ordered, and falls by what is asked for."""
-    points, before = list[tuple[float, float]](), initial
-    for place, period in enumerate(periods):
-        points += [(place, before), (place, before + period.ordered)]
-        before = period.position
-    return [*points, (len(periods), before)]
-
-
-def policy_plot(policy: Policy, periods: Sequence[Period], initial: int) -> Plot:
-    """Returns the stock and the position of one policy, with its levels."""
-    stocks = [period.stock for period in periods]
-    positions = position_points(periods, initial)
-    heights = [policy.s, policy.S, *stocks, *(height for _, height in positions)]
-    across, up = Scale(0, len(periods), ()), Scale.of(heights, is_whole=True)
-    levels = f"s = {policy.s}, S = {policy.S}"
-    return Plot(
-        title=name_of(policy),
-        description=f"{name_of(policy)}: stock from {min(stocks)} to {max(stocks)}.",
-        heights=up.heights,
-        marks=marks_of([*map(str, range(len(periods)))]),
-        across="period, numbered from 0",
-        lines=[
-            Line(levels, MEAN, up.level(policy.s) + up.level(policy.S)),
-            Line("inventory position", HIGH, path_of(across, up, positions)),
-            steps("stock at the end of the period", OF_CHOSEN, stocks, up),
-        ],
-        owed=max(0.0, up.at(0)),
-    )
-
-
-def trajectories_picture(
-    policies: Sequence[Policy], periods: Sequence[Sequence[Period]], initial: int
-) -> Picture:
-    """Draws the periods of each policy, one below another. `initial` is the stock before the first period."""
-    plots = [
-        policy_plot(policy, own, initial) for policy, own in zip(policies, periods)
-    ]
-    return Picture.of(plots, "Replication 0: stock, inventory position and orders")

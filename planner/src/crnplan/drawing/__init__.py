@@ -1,0 +1,1 @@
+"""Draws pictures and renders pages, from numbers and texts alone."""
