@@ -29,8 +29,14 @@ from crnplan.read.catalogue_reading import READ, Catalogued
 from crnplan.read.item import Item
 from crnplan.remarks import Remark
 from crnplan.store.stored import Store
-from crnplan.theory.many_laws import figures_of_laws
-from crnplan.theory.suggestions import suggestions_of
+from crnplan.theory.lattice import theories_of
+from crnplan.theory.many_laws import Promises, figures_of_laws
+from crnplan.theory.suggestions import (
+    FILLS,
+    by_theory,
+    chosen_policies,
+    suggestions_of,
+)
 
 Figures = dict[str, Any]
 
@@ -92,11 +98,9 @@ def run_rows(scenario: crn.Scenario, program: str) -> Figures:
     return found
 
 
-def theory_rows(
-    scenario: crn.Scenario, laws: Sequence[Any] = (), leads: Sequence[Any] = ()
-) -> Figures:
+def theory_rows(scenario: crn.Scenario) -> Figures:
     """Returns the suggested policies with theory's figures."""
-    found = suggestions_of(scenario, laws, leads)
+    found = suggestions_of(scenario)
     return {
         "step": found.step,
         "error": found.error,
@@ -126,13 +130,18 @@ def suggested(
     scenario: crn.Scenario, counts: Sequence[int], leads: Sequence[int]
 ) -> crn.Scenario:
     """Returns a scenario with suggested policies: also those that keep a fill rate under most laws that a history allows."""
-    laws = allowed_laws(counts).laws, allowed_leads(leads).laws
-    return crn.Scenario.parse(suggestions_of(scenario, *laws).toml())
+    found, (theory, _) = suggestions_of(scenario), theories_of(scenario)
+    best, laws = theory.best(), (allowed_laws(counts), allowed_leads(leads))
+    gap, fills = theory.gap_of(*best.levels), [*FILLS.values()]
+    promises = Promises(scenario, theory, gap, *laws, fills)
+    chosen = chosen_policies(scenario, theory, best, promises).policies.values()
+    rows = by_theory(scenario, [policy for policy, _ in chosen]).rows
+    return crn.Scenario.parse(replace(found, rows=rows).toml())
 
 
 def doubt_rows(scenario: crn.Scenario, counts: Any, leads: Any) -> Figures:
     """Returns the figures of policies under the laws that a history allows."""
-    laws = [*zip(allowed_laws(counts).laws, allowed_leads(leads).laws)]
+    laws = [*zip(allowed_laws(counts), allowed_leads(leads))]
     figures = figures_of_laws(scenario, laws, scenario.policies)
     return by_frame(Doubt(scenario.policies, figures))
 

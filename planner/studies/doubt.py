@@ -250,7 +250,7 @@ class Case:
         """Returns all figures of a history: a row for each setting, a column for each of `FIGURES`."""
         best, filled = self.policies(history)
         runs = PickedRuns(
-            [chances_of(it) for it in allowed_laws(history, times=times).laws],
+            [chances_of(it) for it in allowed_laws(history, times=times)],
             *self.truth.size,
         )
         (costs, fills), (true_cost, true_fill) = self.under(

@@ -92,7 +92,7 @@ def chosen(history: Sequence[int], mean: float) -> Iterator[list[Candidate]]:
         scenarios_of(fit_demand(history, method=method).table, mean)
         for method in METHODS[:2]
     )
-    laws = allowed_laws(history).laws
+    laws = allowed_laws(history)
     for by_history, own in zip(seen, fitted):
         theory = theory_of(own)
         plain = theory.best(SHARE)

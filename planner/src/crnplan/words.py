@@ -373,13 +373,6 @@ def _untested(facts: Facts) -> str:
 
 
 # What follows from the facts of suggestions (theory/suggestions.py).
-def _lacking_laws(facts: Facts) -> str:
-    lacking = facts["lacking"]
-    if not lacking:
-        return ""
-    return f"; {lacking} of the laws have no long run, and keep no promise"
-
-
 # What follows from facts, by its name in the tables of words.
 DERIVED: dict[str, Derive] = {
     "owner of the law": _owner,
@@ -407,8 +400,6 @@ DERIVED: dict[str, Derive] = {
     "largest": _largest,
     "seen effects": _seen_effects,
     "what is untested": _untested,
-    "exactness": lambda facts: exactness(facts["step"]),
-    "lacking laws": _lacking_laws,
     "far": lambda facts: abs(facts["today"] - facts["mean"]),
     "side": lambda facts: "above" if facts["today"] > facts["mean"] else "below",
     **{f"found {name}": found for name, (_, found, advice) in TESTS.items()},

@@ -60,8 +60,8 @@ def test_columns(by_hand: Doubt) -> None:
 
 def test_figures_are_those_of_each_law(part: crn.Scenario) -> None:
     demands, leads = (
-        allowed_laws(HISTORY, times=12, seed=3).laws,
-        allowed_leads(LEADS, times=12, seed=3).laws,
+        allowed_laws(HISTORY, times=12, seed=3),
+        allowed_leads(LEADS, times=12, seed=3),
     )
     laws = [*zip(demands, leads)]
     found = Doubt(part.policies, figures_of_laws(part, laws, part.policies))
@@ -84,6 +84,6 @@ def test_figures_are_those_of_each_law(part: crn.Scenario) -> None:
         assert rows[policy.name]["regret"] == pytest.approx(regret.mean(), abs=1e-6)
     assert min(row["own_regret"] - row["regret"] for row in rows.values()) >= 0
     back = part.changed(returns={0: 1, 6: 1})
-    demands = allowed_laws(HISTORY, times=30).laws
+    demands = allowed_laws(HISTORY, times=30)
     some = figures_of_laws(back, [(it, part.lead) for it in demands], part.policies)
     assert 0 < len(some.laws) < 30

@@ -91,7 +91,7 @@ def test_law_of_a_new_item(known: Prior, numbers: tuple[int, ...]) -> None:
     assert known.whole
     wanted = Posterior.of(Sample.of(numbers), known.whole.chances).predictive
     law = law_of(known, numbers, is_new=True)
-    laws = borrowed_laws(known, numbers, is_new=True).laws
+    laws = borrowed_laws(known, numbers, is_new=True)
     assert law.table == crn.Law.of_chances(wanted)
     assert borrowed(law).share == 1 and not borrowed(law).alone
     mean = np.mean([float(it.mean) for it in laws])
@@ -234,7 +234,7 @@ def test_items_in_packs(packed: dict[str, list[int]]) -> None:
         assert law.values == tuple(pack * it for it in found.values)
         assert borrowed(law).share == borrowed(found).share > 0.5
         assert borrowed(law).guard == borrowed(found).guard
-        for drawn in borrowed_laws(prior, packed[name], times=5).laws:
+        for drawn in borrowed_laws(prior, packed[name], times=5):
             assert not np.mod(drawn.values, pack).any()
     expected = pulled([*in_packs.values()], prior.whole)
     assert np.allclose(prior.packs.chances, expected, rtol=1e-5, atol=1e-9)
@@ -266,11 +266,11 @@ def test_items_with_few_demands(numbers: list[int], few: bool, known: Prior) -> 
 def test_drawn_laws(numbers: list[int], known: Prior) -> None:
     """Their mean is the law of the item, but for the error of draws."""
     law, drawn = law_of(known, numbers), borrowed_laws(known, numbers, times=1500)
-    assert drawn.families == {"borrowed": 1500}
-    width = max(it.values[-1] for it in drawn.laws) + 1
-    laws = np.array([chances_of(it, width) for it in drawn.laws])
+    assert len(drawn) == 1500
+    width = max(it.values[-1] for it in drawn) + 1
+    laws = np.array([chances_of(it, width) for it in drawn])
     check_mean(laws, chances_of(law), 1e-4)
-    for its in drawn.laws[:20]:
+    for its in drawn[:20]:
         check_law(its)
 
 

@@ -41,12 +41,14 @@ def test_adding_a_family(monkeypatch: pytest.MonkeyPatch) -> None:
     """
     numbers = (np.random.default_rng(3).geometric(0.3, 60) - 1).tolist()
     assert "geometric" not in fit_demand(numbers).diagnostics.families
+    others = allowed_laws(numbers, times=50)
     monkeypatch.setitem(families.FAMILIES, "geometric", families.Geometric())
     law = fit_demand(numbers, method="geometric")
     assert law.family == "geometric"
     assert law.weights[0] / 65_536 == pytest.approx(61 / (62 + sum(numbers)), abs=1e-5)
     assert fit_demand(numbers).family == "geometric"
-    assert allowed_laws(numbers, times=50).families["geometric"] > 10
+    drawn = allowed_laws(numbers, times=50)
+    assert len({*drawn} - {*others}) > 10
 
 
 @EACH_FAMILY

@@ -253,7 +253,7 @@ def test_any_history(numbers: list[int], method: str, seed: int) -> None:
     assert law == fit_demand(iter(numbers), method=method)
     if method == "auto":
         assert law.values[-1] <= 3 * max(numbers)
-    for allowed in allowed_laws(numbers, times=5, seed=seed).laws:
+    for allowed in allowed_laws(numbers, times=5, seed=seed):
         check_law(allowed)
         assert (allowed.values[-1] > 0) == any(numbers)
 

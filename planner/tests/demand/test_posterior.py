@@ -74,11 +74,11 @@ def test_members_and_allowed_laws(numbers: Sequence[int]) -> None:
     found = allowed_laws(numbers, times=200)
     assert found == allowed_laws(numbers, times=200)
     assert found != allowed_laws(numbers, times=200, seed=2)
-    assert len(found.laws) == sum(found.families.values()) == 200
-    for law in found.laws:
+    assert len(found) == 200
+    for law in found:
         check_law(law)
         assert law.values[-1] <= posterior.end_of(sample) * max(numbers)
-    mean = np.mean([float(law.mean) for law in found.laws])
+    mean = np.mean([float(law.mean) for law in found])
     assert mean == pytest.approx(np.mean(numbers), rel=0.25)
 
 
@@ -154,14 +154,14 @@ def test_round_history(share: float) -> None:
 def test_history_alone() -> None:
     """Without a family, what was seen has Dirichlet weights. Two sizes in turn stay two. Packs are as in a fit."""
     found = allowed_laws(SINGLE, times=2000)
-    assert found.families == {"history": 2000} and {*found.laws[0].values} == {0, 7}
-    drawn = np.array([it.chances.get(7, 0) for it in found.laws])
+    assert len(found) == 2000 and {*found[0].values} == {0, 7}
+    drawn = np.array([it.chances.get(7, 0) for it in found])
     assert is_of(drawn, stats.beta(posterior.COUNTED, 4 * posterior.COUNTED))
     between = []
-    for law in allowed_laws([3, 40] * 40).laws:
+    for law in allowed_laws([3, 40] * 40):
         between.append(chances_of(law, 41)[9:35].sum())
     assert np.median(between) < 0.05
-    for law in allowed_laws([6 * it for it in ERRATIC], times=20).laws:
+    for law in allowed_laws([6 * it for it in ERRATIC], times=20):
         assert not np.mod(law.values, 6).any()
     boxes = allowed_laws([4 * it - (it > 0) for it in ERRATIC], times=20, box=4)
     assert boxes == allowed_laws(ERRATIC, times=20)
@@ -197,13 +197,11 @@ def test_families_without_a_doubt(monkeypatch: pytest.MonkeyPatch) -> None:
     }.items():
         monkeypatch.setattr(posterior, name, value)
     sample = Sample.of(RARE)
-    families, laws = demand_laws(sample, 2000, np.random.default_rng(2))
+    laws = demand_laws(sample, 2000, np.random.default_rng(2))
     fits = fits_of(sample)
     more = np.array([fit.bic for fit in fits.values()])
     more -= more.min()
     weights = dict(zip(fits, special.softmax(np.where(more <= 10, -more / 2, -np.inf))))
-    for name, count in families.items():
-        assert count / 2000 == pytest.approx(weights[name], abs=2e-3)
     mixed = mixture(
         (share, predictive_of(name, sample)) for name, share in weights.items()
     )
@@ -216,7 +214,7 @@ def test_ends_and_strata() -> None:
     for demands, times in ((2, 9.4), (12, 4.0), (172, 2.0), (5000, 1.5)):
         end = posterior.end_of(Sample.of([0] * 3 + [4] * demands))
         assert end == pytest.approx(times, abs=0.05)
-    assert {*allowed_leads([3], times=4).laws} == {Law((3,), (65_536,))}
+    assert {*allowed_leads([3], times=4)} == {Law((3,), (65_536,))}
     rare = posterior.law_of_chances(np.array([1.0, 1e-9]), 7)
     assert rare == Law((0, 7), (65_535, 1))
     assert posterior.law_of_chances(np.array([1.0]), 0) == Law((0,), (65_536,))
@@ -232,9 +230,8 @@ def test_ends_and_strata() -> None:
 def test_allowed_leads(numbers: list[int]) -> None:
     """Their mean is the fitted law, and a share of what was seen varies as in a Dirichlet law."""
     found, is_many = allowed_leads(numbers, times=1000), len(numbers) >= 20
-    drawn = np.array([chances_of(it, 33) for it in found.laws])
+    drawn = np.array([chances_of(it, 33) for it in found])
     check_mean(drawn, chances_of(fit_lead(numbers), 33), 1 / 65_536)
-    assert found.families == {"history" if is_many else "blurred": 1000}
     assert found == allowed_leads(numbers, times=1000)
     assert found != allowed_leads(numbers, times=1000, seed=3)
     if is_many:

@@ -84,7 +84,7 @@ def test_laws_that_the_history_allows(alone: Alone, counts: list[int]) -> None:
     for policy in its.scenario.policies:
         if policy.name in ("fill_95", "fill_99", "fewer_orders"):
             assert wanted[policy.name] == policy
-    laws = [*zip(allowed_laws(counts).laws, allowed_leads(LEADS).laws)]
+    laws = [*zip(allowed_laws(counts), allowed_leads(LEADS))]
     policies = its.scenario.policies
     found = Doubt(policies, figures_of_laws(its.scenario, laws, policies)).frame
     rows = its.doubt().frame

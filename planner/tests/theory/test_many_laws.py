@@ -3,6 +3,7 @@ from __future__ import annotations
 
 from collections.abc import Sequence
 from dataclasses import replace
+from typing import Any
 
 import numpy as np
 import pytest
@@ -10,14 +11,21 @@ from hypothesis import given, settings, strategies as st
 
 import crnplan as crn
 from crnplan.theory import many_laws
-from crnplan.theory.lattice import NoTheory, shape_of, theory_on
+from crnplan.theory.lattice import NoTheory, shape_of, theories_of, theory_on
 from crnplan.theory.many_laws import (
     LawFigures,
+    Promises,
     compute_shortfalls,
     figures_of_laws,
     least_costs,
 )
-from crnplan.theory.suggestions import FILLS, Suggestions, suggestions_of
+from crnplan.theory.suggestions import (
+    FILLS,
+    Chosen,
+    chosen_policies,
+    suggestions_of,
+)
+from crnplan.words import sentence
 from planner.tests.theory.chain import by_chain
 from planner.tests.theory.long_run_costs import costs_of, fills_of, shortfall_of
 from planner.tests.theory.scenarios import Weights, scenario_of, table
@@ -130,13 +138,30 @@ def test_shortfalls_of_many_laws() -> None:
     assert other.cost == pytest.approx(alone.cost[:1], rel=1e-12)
 
 
-def promised(found: Suggestions) -> dict[str, tuple[int, int]]:
+def promises_of(
+    scenario: crn.Scenario,
+    laws: Sequence[crn.Law],
+    leads: Sequence[crn.Law] = (),
+    share: float = 0.8,
+) -> tuple[Promises, Chosen]:
+    """Returns what policies promise under a share of laws, and the policies that are suggested by that."""
+    theory, _ = theories_of(scenario)
+    best, fills = theory.best(), [*FILLS.values()]
+    gap = theory.gap_of(*best.levels)
+    promises = Promises(scenario, theory, gap, laws, leads, fills, share)
+    return promises, chosen_policies(scenario, theory, best, promises)
+
+
+def promised(
+    scenario: crn.Scenario, laws: Sequence[crn.Law], *words: Any
+) -> dict[str, tuple[int, int]]:
     """Returns the levels of the policies that promise a fill rate, by its name; also if it is the plain one's twin."""
     levels = {}
-    for row in found.rows:
+    _, found = promises_of(scenario, laws, *words)
+    for policy, reasons in found.policies.values():
         for name, share in FILLS.items():
-            if f"at least {100 * share:g}% under" in "; ".join(row.reasons):
-                levels[name] = (row.policy.s, row.policy.S)
+            if f"at least {100 * share:g}% under" in "; ".join(map(sentence, reasons)):
+                levels[name] = (policy.s, policy.S)
     return levels
 
 
@@ -178,7 +203,7 @@ def test_a_promise_is_kept_and_no_smaller_level_keeps_it(
 ) -> None:
     scenario, laws = scenario_of(demand, lead, costs=COSTS), laws_near(demand, 10, seed)
     leads = laws_near(lead, 10, seed) if by_leads else []
-    found = promised(suggestions_of(scenario, laws, leads, share))
+    found = promised(scenario, laws, leads, share)
     assert found.keys() == FILLS.keys()
     for name, (point, level) in found.items():
         gap = Gap(scenario, level - point, laws, leads)
@@ -192,7 +217,7 @@ def test_the_gap_is_a_good_one(lead: Weights) -> None:
     """No gap promises as much for a cost that is 2% less, in a few cases by all pairs."""
     scenario, laws = scenario_of(SPARSE, lead, costs=COSTS), laws_near(SPARSE, 10, 3)
     gaps = [Gap(scenario, gap, laws) for gap in range(40)]
-    for name, (point, level) in promised(suggestions_of(scenario, laws)).items():
+    for name, (point, level) in promised(scenario, laws).items():
         cost = gaps[level - point].costs[level]
         for gap in gaps:
             enough = gap.costs[gap.is_enough(FILLS[name], 0.8)]
@@ -203,51 +228,48 @@ def test_the_texts_and_the_ends() -> None:
     """A promise has its cost beside the plain policy: none if all laws are alike. One law has no long run."""
     demand = {value: 31 - value for value in range(31)}
     scenario = scenario_of(demand, [2], costs=COSTS)
-    found = suggestions_of(scenario, laws_near(demand, 10, 1), confidence=0.9)
-    rows = {it.policy.name: it for it in found.rows}
-    names = [*rows]
+    promises, found = promises_of(scenario, laws_near(demand, 10, 1), share=0.9)
+    rows = {
+        policy.name: (policy, reasons) for policy, reasons in found.policies.values()
+    }
+    names, theory = [*rows], promises.theory
     for name, share in FILLS.items():
-        plain, sure = rows[f"fill_{name}"], rows[f"sure_{name}"]
-        assert names.index(f"sure_{name}") == names.index(f"fill_{name}") + 1
-        more = sure.figures.cost / plain.figures.cost - 1
-        assert sure.reasons[0] == (
-            f"the cheapest with a fill rate of at least {100 * share:g}% under 90% of the laws "
-            f"that the history allows, for {more:.1%} more"
+        plain, sure = (
+            theory.figures(policy.s, policy.S)
+            for policy, _ in (rows[f"fill_{name}"], rows[f"sure_{name}"])
         )
-        assert more > 0 and sure.figures.fill > plain.figures.fill
-    assert (
-        "\nsure: under 90% of the laws that the history allows, of which 10 were drawn, if the coming year is "
-        "like the last one; their fill rates are exact but for rounding\n"
-    ) in found.notes
-    assert len(names) == 16
-    left_out = "\nleft out, since a scenario has at most 16 policies: "
-    assert left_out in found.notes
+        assert names.index(f"sure_{name}") == names.index(f"fill_{name}") + 1
+        assert sentence(rows[f"sure_{name}"][1][0]) == (
+            f"the cheapest with a fill rate of at least {100 * share:g}% under 90% of the laws "
+            f"that the history allows, for {sure.cost / plain.cost - 1:.1%} more"
+        )
+        assert sure.cost > plain.cost and sure.fill > plain.fill
+    assert promises.exact and not promises.lacking
+    assert len(names) == 16 and found.left_out
     scenario = scenario_of(SPARSE, [1, 2], costs=COSTS)
-    plain = suggestions_of(scenario)
-    sure = suggestions_of(scenario, [scenario.demand] * 5)
-    assert len(plain.rows) == len(sure.rows)
-    for one, other in zip(plain.rows, sure.rows):
-        assert one.policy == other.policy
-        is_free = "for 0.0% more" in "; ".join(other.reasons)
-        assert is_free or not one.policy.name.startswith("fill")
+    plain_rows = suggestions_of(scenario).rows
+    _, sure = promises_of(scenario, [scenario.demand] * 5)
+    assert len(plain_rows) == len(sure.policies)
+    for one, (policy, reasons) in zip(plain_rows, sure.policies.values()):
+        assert one.policy == policy
+        is_free = "for 0.0% more" in "; ".join(map(sentence, reasons))
+        assert is_free or not policy.name.startswith("fill")
     scenario = scenario_of(SPARSE, back={0: 2, 1: 1}, costs=COSTS)
     laws = [scenario.demand] * 3 + [table({0: 9, 1: 1})]
-    found = promised(suggestions_of(scenario, laws, confidence=0.75))
-    assert len(found) == len(FILLS)
-    unsure = suggestions_of(scenario, laws, confidence=0.76)
-    assert not promised(unsure)
-    assert "; 1 of the laws have no long run, and keep no promise\n" in unsure.notes
+    assert len(promised(scenario, laws, (), 0.75)) == len(FILLS)
+    assert not promised(scenario, laws, (), 0.76)
+    assert promises_of(scenario, laws)[0].lacking == 1
 
 
 def test_a_coarser_lattice_promises_about_the_same(
     monkeypatch: pytest.MonkeyPatch,
 ) -> None:
     scenario, laws = scenario_of(FALLING, [2], costs=COSTS), laws_near(FALLING, 10, 2)
-    fine = promised(suggestions_of(scenario, laws))
+    fine = promised(scenario, laws)
     monkeypatch.setattr(many_laws, "MOST_LEVELS", 100)
-    found = suggestions_of(scenario, laws)
-    assert "their fill rates are rounded to steps of" in found.notes
-    for name, (point, level) in promised(found).items():
+    promises, _ = promises_of(scenario, laws)
+    assert not promises.exact and promises.step > 1
+    for name, (point, level) in promised(scenario, laws).items():
         fills = Gap(scenario, level - point, laws).fills[:, level]
         assert np.sort(fills)[2] == pytest.approx(FILLS[name], abs=0.003)
         assert level == pytest.approx(fine[name][1], rel=0.1)
@@ -269,6 +291,4 @@ COUNTS = "there are {} laws of demand and 1 of lead times; give as many of both"
 def test_refused_laws(laws: int, leads: int, share: float, said: str) -> None:
     scenario = scenario_of([0, 1])
     with pytest.raises(crn.Refused, match=said):
-        suggestions_of(
-            scenario, [scenario.demand] * laws, [scenario.lead] * leads, share
-        )
+        promises_of(scenario, [scenario.demand] * laws, [scenario.lead] * leads, share)

@@ -35,7 +35,6 @@ from .grid import (
 )
 from .learning import NONE, Prior, is_outside
 from .posterior import (
-    AllowedLaws,
     allowed_laws,
     law_of_chances,
     random_of,
@@ -257,7 +256,7 @@ def borrowed_laws(
     box: int = 1,
     seed: int = 1,
     is_new: bool = False,
-) -> AllowedLaws:
+) -> tuple[Law, ...]:
     """Draws laws of demand that an item's history and its catalogue allow. The same seed gives the same laws.
 
     Their mean is the law of `law_of`, all but the end of its tail: each is drawn from the item's posterior under the
@@ -279,7 +278,6 @@ def borrowed_laws(
         for place, (_, part) in enumerate(parts)
         for law in part.drawn(np.array(uniform)[:, chosen == place])
     )
-    return AllowedLaws(
-        {FAMILY: times},
-        tuple(law_of_chances(in_items(law, sample.pack), sample.most) for law in laws),
+    return tuple(
+        law_of_chances(in_items(law, sample.pack), sample.most) for law in laws
     )

@@ -18,8 +18,7 @@ is said of the doubt holds about as often as it says: see planner/studies/README
 from __future__ import annotations
 
 import math
-from collections.abc import Iterable, Mapping
-from dataclasses import dataclass
+from collections.abc import Iterable
 from typing import Any, NamedTuple
 
 import numpy as np
@@ -44,7 +43,6 @@ from .fitting import (
 )
 from .sample import Sample
 
-FROM_HISTORY = "history"  # the name of the Bayesian bootstrap among the families
 MEMBERS = 500  # of a family, among which laws are drawn
 # For how many periods a family counts beside each of the history; the last stands for the family itself.
 CONCENTRATIONS = np.logspace(-2, 2, 9)
@@ -58,15 +56,6 @@ COUNTED = 0.5  # what a number counts in the posterior
 # Laws end at the largest demand seen, at the largest of so many demands, at least so many times the former, or between.
 DEMANDS_OF_END = 30_000
 LEAST_END = 1.5
-
-
-@dataclass(frozen=True)
-class AllowedLaws:
-    """Laws that a history allows, whose weights add up to 65,536, and how many each family gave; "history" stands for
-    the Bayesian bootstrap."""
-
-    families: Mapping[str, int]
-    laws: tuple[Law, ...]
 
 
 def stratified(random: np.random.Generator, rows: int, times: int) -> Floats:
@@ -142,17 +131,16 @@ def end_of(sample: Sample) -> float:
 
 def demand_laws(
     sample: Sample, times: int, random: np.random.Generator
-) -> tuple[dict[str, int], list[Floats]]:
-    """Draws laws of demand: how many each family gave, and their chances."""
+) -> list[Floats]:
+    """Draws laws of demand, as chances."""
     packs = sample.packs
     pack = sample.pack
     fits = near_of(fits_of(packs))
     if not fits:
-        laws = (
+        return [
             round_history(np.zeros(1), sample, 0.0, random, COUNTED)
             for _ in range(times)
-        )
-        return {FROM_HISTORY: times}, [*laws]
+        ]
     members = [members_of(fit, packs, random) for fit in fits.values()]
     ends = sample.most * end_of(sample) ** stratified(random, 1, times)[0]
     likely = np.array([its.likely for its in members])
@@ -174,8 +162,7 @@ def demand_laws(
         )
         base = scaled(in_items(cut(law), pack)[: int(end) + 1])
         drawn.append(round_history(base, sample, SHARES[periods], random, COUNTED))
-    counts = zip(fits, np.bincount(families, minlength=len(fits)).tolist())
-    return {name: count for name, count in counts if count}, drawn
+    return drawn
 
 
 def random_of(times: int, seed: int, *stream: int) -> np.random.Generator:
@@ -200,8 +187,8 @@ def allowed_laws(
     box: int = 1,
     seed: int = 1,
     name: str = "demand",
-) -> AllowedLaws:
-    """Draws laws of demand that a history allows. The same seed gives the same laws.
+) -> tuple[Law, ...]:
+    """Draws laws of demand that a history allows, whose weights add up to 65,536. The same seed gives the same laws.
 
     `observed` and `box` are as in `fit_demand`, and so is what is raised, with the name of the numbers. No law has demands above some times the
     largest one seen (`end_of`: 9 times after 2 demands, 4 after 12, 2 after 172), those above 10,000 count as 10,000,
@@ -209,15 +196,13 @@ def allowed_laws(
     """
     random = random_of(times, seed, 0)
     sample = Sample.of(boxes_of(observed, box, name))
-    families, laws = demand_laws(sample, times, random)
-    return AllowedLaws(
-        families, tuple(law_of_chances(law, sample.most) for law in laws)
-    )
+    laws = demand_laws(sample, times, random)
+    return tuple(law_of_chances(law, sample.most) for law in laws)
 
 
 def allowed_leads(
     observed: Iterable[Any], *, times: int = 100, seed: int = 1
-) -> AllowedLaws:
+) -> tuple[Law, ...]:
     """Draws laws of lead times that the observed ones allow. The same seed gives the same laws.
 
     Each has random weights of what was seen (the Bayesian bootstrap). As in `fit_lead(method="auto")`, 2 to 19 lead
@@ -227,18 +212,14 @@ def allowed_leads(
     random = random_of(times, seed, 1)
     numbers = leads_of(observed)
     if len(numbers) < LEAST_LEADS:
-        return AllowedLaws(
-            {FROM_HISTORY: times}, (Law(tuple(numbers), (MOST_WEIGHT,)),) * times
-        )
+        return (Law(tuple(numbers), (MOST_WEIGHT,)),) * times
     counts = counts_of(numbers)
     sides = np.zeros(times)
-    family = FROM_HISTORY
     if len(numbers) < FEW:
         below = np.cumsum(sides_of(counts))[:-1]
         sides = SIDES[np.searchsorted(below, stratified(random, 1, times)[0])]
-        family = "blurred"
     weights = np.zeros((times, len(counts)))
     weights[:, counts > 0] = random.standard_gamma(
         counts[counts > 0], (times, np.count_nonzero(counts))
     )
-    return AllowedLaws({family: times}, tuple(map(lead_law, weights, sides)))
+    return tuple(map(lead_law, weights, sides))

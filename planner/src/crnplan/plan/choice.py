@@ -79,10 +79,10 @@ def allowed_by(
             is_new=question.is_new,
             **named,
         )
-    demands = tuple(map(question.coming, drawn.laws))
+    demands = tuple(map(question.coming, drawn))
     if len(item.leads) < 2:
         return demands, ()
-    return demands, allowed_leads(item.leads, times=laws, seed=seed).laws
+    return demands, allowed_leads(item.leads, times=laws, seed=seed)
 
 
 def by_prices(

@@ -18,7 +18,6 @@ from dataclasses import dataclass
 from fractions import Fraction
 
 from ..formats import MOST_ITEMS, POLICIES
-from ..law import Law
 from ..remarks import Remark
 from ..policies import Policy
 from ..scenario import BY_ITS_LAWS, Scenario
@@ -30,7 +29,7 @@ from ..words import sentence
 from .figures import Figures
 from .lattice import theories_of
 from .long_run import Candidate, LongRun
-from .many_laws import CONFIDENCE, Promises
+from .many_laws import Promises
 from .walk import net_tables
 
 FILLS = {"95": 0.95, "98": 0.98, "99": 0.99, "995": 0.995}
@@ -139,7 +138,10 @@ def add_fills(chosen: Chosen, theory: LongRun, promises: Promises | None) -> Non
 
 
 def chosen_policies(
-    scenario: Scenario, theory: LongRun, best: Candidate, promises: Promises | None
+    scenario: Scenario,
+    theory: LongRun,
+    best: Candidate,
+    promises: Promises | None = None,
 ) -> Chosen:
     """Returns the suggested policies of a scenario, of which the best is known. All but today's are feasible."""
     chosen = Chosen(scenario)
@@ -345,26 +347,11 @@ class Suggestions(Result):
         )
 
 
-def suggestions_of(
-    scenario: Scenario,
-    laws: Sequence[Law] = (),
-    leads: Sequence[Law] = (),
-    confidence: float = CONFIDENCE,
-) -> Suggestions:
-    """Returns the suggested policies of a scenario, at most 16 with today's.
-
-    With laws of demand that a history allows, and perhaps as many of lead times, policies that keep a fill rate under
-    this share of them stand beside those that have it by the scenario's law. Raises NoTheory if there is no best
-    policy, and Refused for a confidence that is not above 0 and at most 1.
-    """
+def suggestions_of(scenario: Scenario) -> Suggestions:
+    """Returns the suggested policies of a scenario, at most 16 with today's. Raises NoTheory if there is no best one."""
     theory, coarse = theories_of(scenario)
     best = theory.best()
-    promises = None
-    if laws or leads:
-        gap = theory.gap_of(best.point, best.level)
-        fills = [*FILLS.values()]
-        promises = Promises(scenario, theory, gap, laws, leads, fills, confidence)
-    chosen = chosen_policies(scenario, theory, best, promises)
+    chosen = chosen_policies(scenario, theory, best)
     rows, errors = list[Suggestion](), list[float]()
     known = [policy for policy, _ in chosen.policies.values()]
     for (policy, reasons), (figures, error) in zip(
@@ -379,7 +366,7 @@ def suggestions_of(
         max(errors, default=None),
         theory.mean_position(best.point, best.level),
         theory.net.mean * theory.step,
-        (*remarks_of(theory, chosen, promises), *below_0(theory, best)),
+        (*remarks_of(theory, chosen), *below_0(theory, best)),
     )
 
 
@@ -395,22 +382,12 @@ def below_0(theory: LongRun, best: Candidate) -> Iterator[Remark]:
         yield Remark("s below 0", facts)
 
 
-def remarks_of(
-    theory: LongRun, chosen: Chosen, promises: Promises | None
-) -> Iterator[Remark]:
-    """Yields how policies were found, what promises are counted on, and which policies have no place."""
+def remarks_of(theory: LongRun, chosen: Chosen) -> Iterator[Remark]:
+    """Yields how policies were found, and which have no place."""
     if theory.is_searched:
         yield Remark("search of a grid", {"most": MOST_EXCESS})
     else:
         yield Remark("search of all pairs")
-    if promises:
-        facts = {
-            "percent": 100 * promises.confidence,
-            "laws": len(promises.theories) + promises.lacking,
-            "lacking": promises.lacking,
-            "step": None if promises.exact else promises.step,
-        }
-        yield Remark("promises", facts)
     if chosen.left_out:
         names = ", ".join(chosen.left_out)
         yield Remark("left out", {"most": POLICIES[1], "names": names})
