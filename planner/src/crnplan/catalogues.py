@@ -34,7 +34,7 @@ from .read.catalogue_reading import (
 from .read.items import Counts, Reading
 from .read.lateness import receipt_remarks
 from .read.law_forms import LAWS
-from .read.outages import OUT
+from .read.spans import OUT
 from .read.opening import Table
 from .read.stated import StatedTable, laws_frame
 from .read.told import merged, told_of

@@ -14,7 +14,7 @@ from ..plan.backtest.methods import Walk
 from ..plan.catalogue import planned_folder
 from ..plan.settings import read_config
 from ..read.catalogue_reading import CATALOGUE, read_into
-from ..read.outages import OUT
+from ..read.spans import OUT
 from .catalogues import words_of
 from .words import command
 

@@ -29,7 +29,7 @@ from ..plan.settings import CONFIG, read_config
 from ..read.catalogue_reading import CATALOGUE, read_into
 from ..read.items import Reading
 from ..read.law_forms import LAWS
-from ..read.outages import OUT
+from ..read.spans import OUT
 from ..read.overriding import set_overrides
 from ..read.told import made_from, merged, stated
 from . import known_words, note

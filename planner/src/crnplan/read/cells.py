@@ -5,12 +5,10 @@ import datetime
 import re
 import tomllib
 import unicodedata
-from collections.abc import Callable, Collection, Iterable, Mapping, Sequence
+from collections.abc import Iterable, Sequence
 from dataclasses import dataclass
-from fractions import Fraction
 from pathlib import Path
-from types import MappingProxyType
-from typing import Any, Union
+from typing import Union
 
 import numpy as np
 import numpy.typing as npt
@@ -64,51 +62,6 @@ class Unreadable(ValueError):
 
     def __str__(self) -> str:
         return worded(message(self.remark))
-
-
-class RowReader:
-    """Reads the cells of rows by their roles, each distinct one once."""
-
-    def __init__(
-        self,
-        readers: Mapping[str, Callable[[Cell], Any]],
-        needed: Collection[str] = (),
-        factors: Mapping[str, Fraction] = MappingProxyType({}),
-    ) -> None:
-        """Takes by role what returns the value of a cell, or raises Unreadable, and by what numbers are multiplied. An
-        empty cell of a role that is not needed has no value."""
-        self.readers = readers
-        self.needed = needed
-        self.factors = factors
-        self.known: dict[tuple[str, Cell], Any] = {}  # a value, or what is wrong
-
-    def value(self, role: str, cell: Cell, faults: list[CellFault]) -> Any:
-        """Returns the value of a cell; None if it has none, or has a fault, which is added."""
-        key = role, cell
-        if key not in self.known:
-            self.known[key] = self._read(role, cell)
-        value = self.known[key]
-        if isinstance(value, Remark):
-            faults.append((role, cell, value))
-            return None
-        return value
-
-    def _read(self, role: str, cell: Cell) -> Any:
-        if cell == "" and role not in self.needed:
-            return None
-        try:
-            value = self.readers[role](cell)
-        except Unreadable as why:
-            return why.remark
-        return value * self.factors[role] if role in self.factors else value
-
-    def read(self, cells: Mapping[str, Cell]) -> tuple[dict[str, Any], list[CellFault]]:
-        """Returns the values of a row by role, and what is wrong with its cells."""
-        faults = list[CellFault]()
-        values = dict[str, Any]()
-        for role, cell in cells.items():
-            values[role] = self.value(role, cell, faults)
-        return values, faults
 
 
 def shown(text: str) -> str:

@@ -201,7 +201,7 @@ class _Groups:
             if prices[item] is not None:
                 worth = int(sums[key]) * whole_prices[item]
                 worths[group] = worths.get(group, 0) + worth
-        packs = Fraction(self.table.pack(role), scale * part * self.size)
+        packs = self.table.factors.get(role, 1) / Fraction(scale * part * self.size)
         return {group: worth * packs for group, worth in worths.items()}
 
     def ends(self, role: str) -> dict[int, tuple[Day, Day]]:

@@ -12,14 +12,13 @@ from ..money import MOST_DECIMALS
 from ..remarks import Value
 from .amounts import AMOUNTS, KINDS, PERCENT
 from .bounds import Bounds
-from .cells import UNPRINTABLE, Cell, CellFault, RowReader, Unreadable, fault, shown
+from .cells import UNPRINTABLE, Cell, CellFault, Unreadable, fault, shown
 from .columns import (
     DAYS,
     MONEY,
     NEEDED,
     ROLES,
     WANTED,
-    factors_of,
     periods_a_year,
 )
 from .dates import period_of
@@ -29,13 +28,13 @@ from .item import BORROW, Item, value_of
 from .items import Reading
 from .leads import counts_receipts, leads_from
 from .overrides import Override, level_faults, override_faults, word_of
-from .sources import Column
 from .status import REPLACED, SUCCESSOR, status_of
+from .tables import TableReader
 from .unit_words import SHARES
 
 TEXTS = ("description", "class", "supplier", "override_reason")
-# The roles whose readers convert their numbers.
-CONVERTED = {*WANTED, *SPANS}
+# The roles whose readers convert their numbers, and those whose money is exact before it is converted.
+CONVERTED = {*WANTED, *SPANS, *MONEY}
 OVERRIDE = "override_s", "override_S", "override", "override_reason"
 
 
@@ -66,28 +65,21 @@ class Master(NamedTuple):
 class Masters:
     """Reads the rows of masters, with the unit of each column, and what holds if they say nothing."""
 
-    def __init__(
-        self, whole: Whole, words: Reading, columns: Mapping[str, Column]
-    ) -> None:
+    def __init__(self, table: TableReader, whole: Whole, words: Reading) -> None:
+        self.table = table
         self.whole = whole
         self.words = words
-        self.defaults = words
+        columns = table.rows.sheet.columns
         self.units = {role: column.unit for role, column in columns.items()}
-        factors = factors_of(columns, words.every)
-        for role in CONVERTED & factors.keys():
-            del factors[role]
-        # Money is exact before it is converted.
-        self.money_factors = {role: factors.pop(role, Fraction(1)) for role in MONEY}
         self.is_money = self.units.get("order_min") == "money"
         holding = self.units.get("holding", "")
         self.share = holding * (holding in SHARES)
         self.currencies = distinct(whole.currencies)
-        self.usual_leads = self.defaults.leads(words.every)
-        self.usual_review = self.defaults.reviews(words.every)
+        self.usual_leads = words.leads(words.every)
+        self.usual_review = words.reviews(words.every)
         # The cells of money, by role, with more decimals than are kept.
         self.fine = set[tuple[str, Cell]]()
-        needed = NEEDED["items"] - self.defaults.roles
-        self.cells = RowReader(self._readers(), needed, factors)
+        table.read_rows(self._readers(), NEEDED["items"] - words.roles, CONVERTED)
 
     def _readers(self) -> dict[str, Callable[[Cell], Any]]:
         """Returns what reads the cells of each role."""
@@ -100,7 +92,7 @@ class Masters:
             "currency": currency_in,
             "override": word_of,
             "status": partial(status_of, stated=self.words.statuses),
-            "since": lambda cell: period_of(self.whole.dates["items"].day(cell), every),
+            "since": lambda cell: period_of(self.table.dates.day(cell), every),
         }
         for role in WANTED:
             unit = self.units.get(role, "")
@@ -112,11 +104,12 @@ class Masters:
             unit = self.units.get(role, "")
             readers[role] = partial(read, unit=unit, every=every)
         for role, kind in AMOUNTS["items"].items():
-            read = partial(amounts[role].number, kind=kind)
+            read = self.table.number(role)
             if "decimals" in KINDS[kind]:
                 read = partial(self._money, role=role, kind=kind)
             readers.setdefault(role, read)
-        return readers | dict.fromkeys(TEXTS, printable)
+        readers |= dict.fromkeys(TEXTS, printable)
+        return {role: readers[role] for role in ROLES["items"][1:]}
 
     def _holding(self, cell: Cell) -> Fraction:
         """Returns a holding cost: money, or a share of the price, which is in percent if the column is."""
@@ -142,37 +135,45 @@ class Masters:
         self.fine.add((role, cell))
         return number
 
-    def price(self, cells: Mapping[str, Cell]) -> Fraction | None:
-        """Returns the price of one item of a row; None if it has none that can be read."""
-        price = {role: cells.get(role, "") for role in ("price", "price_for")}
-        return self._price(self.cells.read(price)[0])
+    def money_factor(self, role: str) -> Fraction:
+        """Returns by what money is multiplied that has a unit."""
+        return self.table.factors.get(role, Fraction(1))
 
-    def value(self, cells: Mapping[str, Cell]) -> Fraction | None:
+    def values(self, row: int | None) -> tuple[dict[str, Any], list[CellFault]]:
+        """Returns the values of a row by role, and what is wrong with its cells; none of both without a row."""
+        read: dict[str, Any] = dict.fromkeys(ROLES["items"])
+        values, faults = ({}, []) if row is None else self.table.row(row)
+        return {**read, **values}, faults
+
+    def price(self, row: int | None) -> Fraction | None:
+        """Returns the price of one item of a row; None if it has none that can be read."""
+        return self._price(self.values(row)[0])
+
+    def value(self, row: int | None) -> Fraction | None:
         """Returns what the stock of a row is worth; None if its stock or its price is missing or can't be read."""
-        stock = self.cells.value("stock", cells.get("stock", ""), [])
-        return value_of(stock, self.price(cells))
+        return value_of(self.values(row)[0]["stock"], self.price(row))
 
     def _price(self, read: Mapping[str, Any]) -> Fraction | None:
         """Returns the price of one item by the values of its row."""
         price: Fraction | None = read["price"]
         if price is None:
             return None
-        return price / (read["price_for"] or 1) * self.money_factors["price"]
+        return price / (read["price_for"] or 1) * self.money_factor("price")
 
     def read(
-        self, cells: Mapping[str, Cell], observed: Sequence[int], group: str
+        self, row: int, observed: Sequence[int], group: str
     ) -> tuple[dict[str, Any], list[CellFault]]:
         """Returns the values of a row by role, None of an empty cell, and all that is wrong with the row. `observed`
         are lead times of orders, for a row that says none, and `group` is the class of the item.
         """
-        roles = ROLES["items"][1:]
-        read, faults = self.cells.read({role: cells.get(role, "") for role in roles})
+        read, faults = self.values(row)
+        cells = self.table.rows.cells(row)
         unread = {role for role, _, _ in faults}
 
         def add(role: str, code: str, **facts: Value) -> None:
             faults.append(fault(role, cells.get(role, ""), code, **facts))
 
-        goals = self.defaults.goals_of(group, read)
+        goals = self.words.goals_of(group, read)
         if not unread & {"backlog", *WANTED}:
             if goals.fill is goals.no_shortage is read["backlog"] is None:
                 add("backlog", "no goal")
@@ -208,9 +209,9 @@ class Masters:
         price = self._price(read)
         stated = read["lead"] or ()
         sources = self._sources(read, observed)
-        goals = self.defaults.goals_of(group, read)
+        goals = self.words.goals_of(group, read)
         sources |= goals.sources
-        read["setup"] = self.defaults.setup if read["setup"] is None else read["setup"]
+        read["setup"] = self.words.setup if read["setup"] is None else read["setup"]
         status, other = read["status"] or ("", "")
         item = Item(
             name,
@@ -219,7 +220,7 @@ class Masters:
             None if read["s"] is None else (int(read["s"]), int(read["S"])),
             read["setup"] or Fraction(0),
             self._holding_of(read["holding"], price),
-            read["backlog"] and read["backlog"] * self.money_factors["backlog"],
+            read["backlog"] and read["backlog"] * self.money_factor("backlog"),
             goals.fill,
             no_shortage=goals.no_shortage,
             review=read["review"] or self.usual_review,
@@ -250,7 +251,7 @@ class Masters:
             sources[role] = DEFAULT if read[role] is None else MASTERS
         if counts_receipts(bool(read["lead"]), len(observed), self.words.lead_from):
             sources["lead"] = ORDERS
-        if self.defaults.review:
+        if self.words.review:
             sources["review"] = DEFAULT if read["review"] is None else MASTERS
         return sources
 
@@ -258,9 +259,9 @@ class Masters:
         """Returns the holding cost of an item and period: what is stated, which may be a share of the price, else the
         usual share."""
         if stated is None:
-            rate = self.defaults.holding_rate or Fraction(0)
+            rate = self.words.holding_rate or Fraction(0)
             return rate / periods_a_year(self.words.every) * (price or 0)
-        stated *= self.money_factors["holding"]
+        stated *= self.money_factor("holding")
         return stated * (price or 0) if self.share else stated
 
     def _days_of(self, leads: Sequence[int]) -> Fraction | None:

@@ -8,11 +8,9 @@ from __future__ import annotations
 import contextlib
 import shutil
 import sqlite3
-from collections.abc import Callable, Mapping
+from collections.abc import Mapping
 from dataclasses import replace
-from functools import partial
 from pathlib import Path
-from typing import Any
 
 import numpy as np
 
@@ -21,51 +19,46 @@ from ..remarks import Remark
 from ..store.files import Folder
 from .amounts import AMOUNTS
 from .catalogue_reading import READ, Catalogued
-from .cells import Cell, RowReader, fault, reason_of
-from .columns import ROLES, factors_of
+from .cells import fault, reason_of
+from .columns import ROLES
 from .item import overridden
 from .items import Reject, Reading, reject_of
 from .opening import Table
 from .overrides import Override, override_faults, word_of
 from .parts import ADD_REJECT, ITEM, REJECT, REPLACE_ITEM
-from .rows import Rows, amount_reader, rows_of
 from .several import open_tables
+from .tables import TableReader
 
 OVERRIDES = "overrides"  # the kind of the table
 Stated = Mapping[str, Override | None]
 
 
-def fault_of(rows: Rows, row: int, remark: Remark) -> Fault:
-    return Fault(remark, *rows.sheet.at(int(rows.lines[row]))[:2])
-
-
-def overrides_in(rows: Rows, every: str) -> dict[str, tuple[int, Override | None]]:
+def overrides_in(table: TableReader) -> dict[str, tuple[int, Override | None]]:
     """Returns the override of each item with its line. Raises RefusedFaults with all that is wrong: no item is ordered by
     levels that could not be read."""
-    readers: dict[str, Callable[[Cell], Any]] = {
-        "override": word_of,
-        "reason": reason_of,
-    }
-    for role, kind in AMOUNTS[OVERRIDES].items():
-        readers[role] = partial(amount_reader(rows, role).number, kind=kind)
-    reader = RowReader(readers, factors=factors_of(rows.sheet.columns, every))
+    rows = table.rows
+    readers = {role: table.number(role) for role in AMOUNTS[OVERRIDES]}
+    table.read_rows({**readers, "override": word_of, "reason": reason_of})
     overrides = dict[str, tuple[int, Override | None]]()
-    faults = [fault_of(rows, row, remark) for row, (_, _, remark) in rows.nameless()]
+    faults = [*rows.nameless()]
     for row in np.flatnonzero(rows.good).tolist():
-        cells = {role: rows.cell(role, row) for role in ROLES[OVERRIDES][1:]}
-        values, wrong = reader.read(cells)
-        stated = values["s"], values["S"], values["override"]
+        read, wrong = table.row(row)
+        s, S, word, reason = map(read.get, ROLES[OVERRIDES][1:])
         if not wrong:
-            wrong = override_faults(cells, ("s", "S"), *stated)
-        faults += [fault_of(rows, row, remark) for _, _, remark in wrong]
-        override = None if wrong else Override.of(*stated, values["reason"])
+            wrong = override_faults(rows.cells(row), ("s", "S"), s, S, word)
+        override = None if wrong else Override.of(s, S, word, reason)
         name = str(rows.cell("item", row))
         known = overrides.setdefault(name, (int(rows.lines[row]), override))
         if known[1] != override:
-            several = Remark("several overrides", {"item": name})
-            faults.append(fault_of(rows, row, several))
+            wrong.append(fault("item", name, "several overrides", item=name))
+        faults += [(row, each) for each in wrong]
     if faults:
-        raise RefusedFaults(faults)
+        raise RefusedFaults(
+            [
+                Fault(remark, *rows.sheet.at(int(rows.lines[row]))[:2])
+                for row, (_, _, remark) in faults
+            ]
+        )
     return overrides
 
 
@@ -78,7 +71,7 @@ def read_overrides(
         if OVERRIDES not in sheets:
             return {}, {}
         sheet = sheets[OVERRIDES]
-        overrides = overrides_in(rows_of(sheet), words.every)
+        overrides = overrides_in(TableReader.of(OVERRIDES, sheet))
     stated = dict[str, Override | None]()
     unknown = dict[str, Reject]()
     for name, (line, override) in overrides.items():

@@ -24,11 +24,10 @@ from .masters import Master, Masters
 from .moves import Moves, is_marked, places_of_spans, unread_in
 from .observed import summed, sums_of
 from .law_forms import LAWS
-from .outages import OUT, outages_in
 from .quiet import quiet_remark
-from .receipts import receipts_in
 from .repeated import is_called_total, total_rows
 from .rows import Rows
+from .spans import NO_SPANS, OUT, outages_in, receipts_in
 from .sources import NONE
 from .stated import StatedLaws
 from .status import BY_TEST, past_of
@@ -67,7 +66,7 @@ class Reader:
             total = fault("item", masters.cell("item", row), "total")
             self.tables["items"].reject(row, [total])
             masters.good[row] = False
-        self.masters = Masters(whole, words, masters.sheet.columns)
+        self.masters = Masters(self.tables["items"], whole, words)
         self.masters_of = masters.by_item(masters.good)
         self.first_masters = masters.firsts(masters.good)
         self.sources = Counter[tuple[str, str]]()
@@ -75,7 +74,9 @@ class Reader:
         self.twice = Counter[int]()
         self.numbers = Counter(dict.fromkeys(COUNTED, 0))
         self.moves_of, totals = self._moves()
-        self.outages_of = outages_in(self.tables.get(OUT), self.record)
+        self.outages_of = NO_SPANS
+        if OUT in self.tables:
+            self.outages_of = outages_in(self.tables[OUT], self.record)
         self.laws = None
         if LAWS in self.tables:
             self.laws = StatedLaws(self.tables[LAWS], words.every)
@@ -115,8 +116,8 @@ class Reader:
     def _is_lost(self, item: int) -> bool:
         """Returns whether an item that is left out would else be planned: it is asked for, and its status does not end
         it."""
-        cell = self._cells(self.masters_of(item)).get("status", "")
-        status, _ = self.masters.cells.value("status", cell, []) or ("", "")
+        values, _ = self.masters.values(self._row(self.masters_of(item)))
+        status, _ = values["status"] or ("", "")
         return item in self.asked and status not in (STOPPED, PHASE_OUT)
 
     def values(self) -> list[Fraction | None]:
@@ -125,7 +126,7 @@ class Reader:
 
     def _value_of_demand(self, item: int) -> Fraction | None:
         moves = self.moves_of(item).known
-        price = self.masters.price(self._cells(self.masters_of(item)))
+        price = self.masters.price(self._row(self.masters_of(item)))
         if price is None:
             return None
         if not len(moves.lines):
@@ -140,27 +141,28 @@ class Reader:
             return None
         return price * Fraction(asked, periods - len(unknown))
 
-    def _cells(self, masters: Numbers) -> dict[str, Cell]:
-        """Returns the cells of the first of these rows of masters, by role; none without a row."""
-        return self.rows["items"].cells(int(masters[0])) if len(masters) else {}
+    def _row(self, masters: Numbers) -> int | None:
+        """Returns the first of these rows of masters; None without a row."""
+        return int(masters[0]) if len(masters) else None
 
     def _are_equal(self, masters: Numbers) -> bool:
         """Returns whether rows of masters are all the same."""
         return len({*self.first_masters[masters].tolist()}) <= 1
 
-    def _sure_cells(self, item: int) -> dict[str, Cell]:
-        """Returns the cells of the master of an item; none if it has no master, or several."""
+    def _sure_row(self, item: int) -> int | None:
+        """Returns the row of the master of an item; None if it has no master, or several."""
         masters = self.masters_of(item)
-        return self._cells(masters) if self._are_equal(masters) else {}
+        return self._row(masters) if self._are_equal(masters) else None
 
     def read(self, letters: Sequence[str]) -> Iterator[Item]:
         """Yields all items in order of names, in which their classes by value are given. Those of totals alone are
         none."""
         self.letters = dict(zip(self.items, letters, strict=True))
-        receipts_of, open_orders = receipts_in(
-            self.tables.get("orders"), self.words.every
-        )
-        self.numbers["open_orders"] += open_orders
+        receipts_of = NO_SPANS
+        if "orders" in self.tables:
+            orders = self.tables["orders"]
+            receipts_of, is_open = receipts_in(orders, self.words.every)
+            self.numbers["open_orders"] += is_open
         became = np.full(len(self.names), PLACES[OPEN], np.int8)
         for item in self.items:
             moves = self.moves_of(item)
@@ -171,7 +173,7 @@ class Reader:
                 self.numbers["ready"] += 1
             except Left as left:
                 kind, line, *faults = left.args
-                value = self.masters.value(self._sure_cells(item))
+                value = self.masters.value(self._sure_row(item))
                 name, rows = self.names[item], len(moves.lines)
                 self.tables[kind].name("item", line, name, faults, rows, value)
                 became[item] = PLACES[WITH_ITEM]
@@ -186,7 +188,7 @@ class Reader:
 
         @functools.cache
         def price_of(item: int) -> Fraction | None:
-            return self.masters.price(self._sure_cells(item))
+            return self.masters.price(self._sure_row(item))
 
         return together(
             controls_of(table, price_of, self.words.factors)
@@ -468,10 +470,11 @@ class Reader:
                 values=named_values(places),
             )
             raise Left("items", lines[1], several)
-        cells = self._cells(rows)
+        row = int(rows[0])
+        cells = self.rows["items"].cells(row)
         stated = UNPRINTABLE.sub(" ", text_of(cells.get("class")))
         group = stated if any(self.whole.groups) else self.letters.get(item, "")
-        read, faults = self.masters.read(cells, leads, group)
+        read, faults = self.masters.read(row, leads, group)
         rounded = self.masters.fine.intersection(cells.items())
         if rounded:
             self.numbers["rounded"] += len(rounded)

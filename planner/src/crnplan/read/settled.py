@@ -47,8 +47,10 @@ def seen_times(
     """Yields the bare lead time of each item of a part that has one and receipts, with the days that these took."""
     items = rows["items"]
     orders = TableReader("orders", rows["orders"], whole.dates["orders"], {})
-    took = orders.read_days("received") - orders.read_days("ordered")
-    receipts_of = orders.rows.by_item(orders.rows.good & ~orders.bad & (took >= 0))
+    placed, received, is_open = orders.read_spans("ordered", "received")
+    took = received - placed
+    known = orders.rows.good & ~orders.bad & ~is_open & (took >= 0)
+    receipts_of = orders.rows.by_item(known)
     for row in np.flatnonzero(items.good).tolist():
         stated = bare_time(whole.times["lead"], items.cell("lead", row))
         receipts = receipts_of(int(items.items[row]))

@@ -74,7 +74,8 @@ class StatedLaws:
             if role in rows.columns:
                 whole = role == "value" and self.form == VALUES
                 read = self._reader(role, "items" if whole else kind)
-                self.numbers[role] = table.read_exact(role, read)
+                column = table.read(role, read, Fraction(0))
+                self.numbers[role] = column.of_rows(table.values[role], object)
         self.periods = np.zeros(len(rows), np.int64)
         if self.form == PATHS:
             self.periods = table.read_whole(TIME, self._period)
@@ -82,8 +83,7 @@ class StatedLaws:
             if role in rows.columns:
                 table.read_whole(role, self._check_time)
         self.bad: Flags = rows.good & table.bad
-        for row in np.flatnonzero(self.bad).tolist():
-            table.reject(row, table.faults(row))
+        table.reject_all(self.bad)
         self.rows_of = rows.by_item(rows.good)
 
     def _reader(self, role: str, kind: str) -> Callable[[Cell], Fraction]:

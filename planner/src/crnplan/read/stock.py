@@ -3,10 +3,10 @@ planner orders in place of what the plan says."""
 from __future__ import annotations
 
 from collections import defaultdict
-from collections.abc import Callable, Iterable, Iterator, Mapping, Sequence
+from collections.abc import Iterable, Iterator, Mapping, Sequence
 from dataclasses import dataclass, field
 from fractions import Fraction
-from functools import cached_property, partial, reduce
+from functools import cached_property, reduce
 from operator import add, attrgetter
 from types import MappingProxyType
 from typing import Any
@@ -18,9 +18,8 @@ from ..remarks import Remark, Value
 from .amounts import AMOUNTS
 from .asked import ORDERED
 from .asking import closed_rows, question, questions, sizes_of
-from .cells import Cell, CellFault, Flags, RowReader, fault, reason_of, text_of
+from .cells import CellFault, Flags, fault, reason_of, text_of
 from .choosing import PLACE, said_of_marks, split_items
-from .columns import factors_of
 from .controls import Controls, controls_of, counts_of, no_rows, together
 from .items import FileCounts, Reject, Reading
 from .observed import Day
@@ -98,7 +97,7 @@ class _Reader:
         self.prices = prices
         self.unread = set[str]()
         self.rejects = list[Reject]()
-        self.table = TableReader.of(kind, sheet, AMOUNTS[kind], self.rejects.append)
+        self.table = TableReader.of(kind, sheet, self.rejects.append)
         self.rows = self.table.rows
         self.names = self.rows.names
         self.said = list[Remark]()
@@ -110,19 +109,12 @@ class _Reader:
             self._leave("closed rows", closed, column=name)
         self.as_of = self._keep_latest() if kind == STOCK else None
         self.asked += questions(kind, self.rows, self.sizes)
-        readers = dict[str, Callable[[Cell], Any]]()
-        for role, number in AMOUNTS[kind].items():
-            if role in self.rows.columns:
-                readers[role] = partial(self.table.amounts[role].number, kind=number)
-        needed = {*readers}
+        readers = {role: self.table.number(role) for role in AMOUNTS[kind]}
         if "due" in self.rows.columns:
-            readers["due"] = self.table.dates.day
             for remark in self.table.dates.notes.values():
                 self.table.name("suspicious", 0, "", [("due", "", remark)])
-        if "reason" in self.rows.columns:
-            readers["reason"] = reason_of
-        factors = factors_of(sheet.columns, words.every)
-        self.reader = RowReader(readers, needed, factors)
+        others = {"due": self.table.dates.day, "reason": reason_of}
+        self.table.read_rows({**readers, **others}, readers)
 
     def is_of(self, sheet: Sheet) -> bool:
         """Returns whether a table is in the same files as the one that was read, and nobody has changed these since."""
@@ -133,8 +125,7 @@ class _Reader:
 
     def _read(self, row: int) -> tuple[dict[str, Any], list[CellFault]]:
         """Returns the values of a row by role, and what is wrong with its cells."""
-        cells = {role: self.rows.cell(role, row) for role in self.reader.readers}
-        values, faults = self.reader.read(cells)
+        values, faults = self.table.row(row)
         if not faults:
             faults = [*self._judged(row, values)]
         if not faults:

@@ -2,17 +2,20 @@
 row. So a history, a catalogue and today's tables are read."""
 from __future__ import annotations
 
-from collections.abc import Callable, Iterable, Mapping, Sequence
+from collections.abc import Callable, Collection, Iterable, Mapping, Sequence
 from fractions import Fraction
-from typing import Any, NamedTuple, TypeVar
+from functools import partial
+from typing import Any, TypeVar
 
 import numpy as np
 import numpy.typing as npt
 
 from ..remarks import Remark
-from .amounts import AmountReader
+from .amounts import AMOUNTS, AmountReader
+from .blocks import Column
 from .cells import Cell, CellFault, Flags, Numbers, Unreadable
-from .dates import DateReader, periods_of_days
+from .columns import factors_of
+from .dates import DateReader
 from .items import Reject, reject_of
 from .observed import Day
 from .rows import Rows, amount_reader, date_reader, rows_of
@@ -33,15 +36,6 @@ STATES = USED, REJECTED, WITH_ITEM, OTHER, OPEN = (
 PLACES: Mapping[str, int] = {state: place for place, state in enumerate(STATES)}
 
 
-class Orders(NamedTuple):
-    """What each order of a table took: in days, below 0 if it was received before it was placed, and in periods, at least
-    1. An order that is open is not yet received."""
-
-    days: Numbers
-    leads: Numbers
-    is_open: Flags
-
-
 def values_of(
     cells: Iterable[Cell], read: Callable[[Cell], Value], default: Value
 ) -> tuple[list[Value], Wrong]:
@@ -59,8 +53,9 @@ def values_of(
 
 
 class TableReader:
-    """Reads the columns of a table. `wrong` has by role what is wrong with its values, by code, and `states` what becomes of
-    each row. What is left out or suspicious is handed on to `add`, if it is given."""
+    """Reads the columns of a table. By role, `values` has what its cells say, and `wrong` what is wrong with them, by their
+    codes, and `factors` by what numbers are multiplied that have a unit. `states` says what becomes of each row. What is left
+    out or suspicious is handed on to `add`, if it is given."""
 
     def __init__(
         self,
@@ -76,38 +71,71 @@ class TableReader:
         self.dates = dates
         self.amounts = amounts
         self.add = add
+        self.factors = factors_of(rows.sheet.columns, str(rows.sheet.rules.every))
         states = np.where(rows.other, PLACES[OTHER], PLACES[OPEN])
         self.states: States = states.astype(np.int8)
+        self.values = dict[str, list[Any]]()
         self.wrong = dict[str, Wrong]()
         for row, wrong in rows.nameless():
             self.reject(row, [wrong], "")
 
     @classmethod
     def of(
-        cls,
-        kind: str,
-        sheet: Sheet,
-        amounts: Iterable[str],
-        add: Callable[[Reject], None] | None = None,
+        cls, kind: str, sheet: Sheet, add: Callable[[Reject], None] | None = None
     ) -> TableReader:
-        """Reads all rows of a table that decides alone how its dates and amounts, which these roles have, are read."""
+        """Reads all rows of a table that decides alone how its dates and amounts are read."""
         rows = rows_of(sheet)
-        readers = {role: amount_reader(rows, role) for role in amounts}
+        readers = {role: amount_reader(rows, role) for role in AMOUNTS[kind]}
         return cls(kind, rows, date_reader(rows, readers), readers, add)
+
+    def read(
+        self, role: str, read: Callable[[Cell], Any], default: Any = None
+    ) -> Column:
+        """Reads the cells of a column, each distinct one once; one that can't be read has the default. Returns the column."""
+        column = self.rows.columns[role]
+        self.values[role], self.wrong[role] = values_of(column.distinct, read, default)
+        return column
+
+    def read_rows(
+        self,
+        reads: Mapping[str, Callable[[Cell], Any]],
+        needed: Collection[str] = (),
+        converted: Collection[str] = (),
+    ) -> None:
+        """Reads those of some columns that there are for `row`. An empty cell of a role that is not needed has no value.
+        Numbers are multiplied by their factors, but for those of roles that are converted elsewhere.
+        """
+
+        def reader_of(role: str) -> Callable[[Cell], Any]:
+            factor = None if role in converted else self.factors.get(role)
+
+            def value_of(cell: Cell) -> Any:
+                if cell == "" and role not in needed:
+                    return None
+                value = reads[role](cell)
+                return value if factor is None else value * factor
+
+            return value_of
+
+        for role in reads:
+            if role in self.rows.columns:
+                self.read(role, reader_of(role))
+
+    def row(self, row: int) -> tuple[dict[str, Any], list[CellFault]]:
+        """Returns the values of a row by role, None of one that has none, and what is wrong with its cells."""
+        values = dict[str, Any]()
+        for role, known in self.values.items():
+            values[role] = known[self.rows.columns[role].codes[row]]
+        return values, self.faults(row)
+
+    def number(self, role: str, kind: str = "") -> Callable[[Cell], Fraction]:
+        """Returns what reads the numbers of a role, of its own kind of KINDS or of another one."""
+        kind = kind or AMOUNTS[self.kind][role]
+        return partial(self.amounts[role].number, kind=kind)
 
     def read_whole(self, role: str, read: Callable[[Cell], int]) -> Numbers:
         """Returns the number that a function reads in each row's cell of a column, 0 of one that has none."""
-        column = self.rows.columns[role]
-        numbers, self.wrong[role] = values_of(column.distinct, read, 0)
-        return column.of_rows(numbers, np.int64)
-
-    def read_exact(
-        self, role: str, read: Callable[[Cell], Fraction]
-    ) -> npt.NDArray[np.object_]:
-        """Returns the exact numbers of a column, as `read_whole` does."""
-        column = self.rows.columns[role]
-        numbers, self.wrong[role] = values_of(column.distinct, read, Fraction(0))
-        return column.of_rows(numbers, object)
+        return self.read(role, read, 0).of_rows(self.values[role], np.int64)
 
     def read_days(
         self, role: str, check: Callable[[Day], Any] = lambda day: None
@@ -121,26 +149,18 @@ class TableReader:
 
         return self.read_whole(role, day_of)
 
-    def pack(self, role: str) -> int:
-        """Returns how many items the numbers of a column count as one."""
-        unit = self.rows.sheet.columns[role].unit
-        return int(unit) if unit.isdecimal() else 1
+    def read_spans(self, first: str, last: str) -> tuple[Numbers, Numbers, Flags]:
+        """Returns the first and the last day of each row, and which rows have no last day yet: that is not wrong."""
+        starts, ends = self.read_days(first), self.read_days(last)
+        for code, cell in enumerate(self.rows.columns[last].distinct):
+            if cell == "":
+                del self.wrong[last][code]
+        return starts, ends, self.empty(last)
 
     def read_amounts(self, role: str, kind: str) -> Numbers:
         """Returns the amount of each row in items, of a kind of KINDS."""
-        number = self.amounts[role].number
-        pack = self.pack(role)
-        return self.read_whole(role, lambda cell: int(number(cell, kind)) * pack)
-
-    def read_orders(self, every: str) -> Orders:
-        """Returns what each order took. One that was placed on any day of period t and received on any day of period
-        t + L took L periods, and 1 if both fell in one period."""
-        placed = self.read_days("ordered")
-        received = self.read_days("received")
-        leads = periods_of_days(received, every) - periods_of_days(placed, every)
-        column = self.rows.columns["received"]
-        is_open = column.of_rows((cell == "" for cell in column.distinct), bool)
-        return Orders(received - placed, np.maximum(1, leads), is_open)
+        number, factor = self.number(role, kind), self.factors.get(role, 1)
+        return self.read_whole(role, lambda cell: int(number(cell) * factor))
 
     @property
     def bad(self) -> Flags:
@@ -150,10 +170,14 @@ class TableReader:
             bad |= self.rows.having(role, wrong)
         return bad
 
+    def empty(self, role: str) -> Flags:
+        """Returns which rows have an empty cell in a column."""
+        column = self.rows.columns[role]
+        return column.of_rows((cell == "" for cell in column.distinct), bool)
+
     def blank(self, role: str) -> Flags:
         """Returns which rows have an empty cell in a column of amounts, and nothing else that is wrong."""
-        column = self.rows.columns[role]
-        blank = column.of_rows((cell == "" for cell in column.distinct), bool)
+        blank = self.empty(role)
         for other, wrong in self.wrong.items():
             if other != role:
                 blank &= ~self.rows.having(other, wrong)
@@ -189,6 +213,16 @@ class TableReader:
         name = str(self.rows.cell("item", row)) if item is None else item
         rows = int(self.kind == "demand")
         self.name("row", int(self.rows.lines[row]), name, faults, rows)
+
+    def reject_all(
+        self, bad: Flags, judged: Callable[[int], CellFault] | None = None
+    ) -> None:
+        """Leaves rows out, by what is wrong with their cells, else by what is wrong with the row."""
+        for row in np.flatnonzero(bad).tolist():
+            faults = self.faults(row)
+            if judged and not faults:
+                faults = [judged(row)]
+            self.reject(row, faults)
 
     def leave(self, others: Flags) -> None:
         """Leaves good rows out that are others than are wanted."""
