@@ -4,7 +4,6 @@ from __future__ import annotations
 
 import contextlib
 import heapq
-import itertools
 import json
 import sqlite3
 from collections import Counter
@@ -24,7 +23,7 @@ from ..words import message
 from .blocks import Sizes
 from .choosing import said_of_marks
 from .columns import converted, is_converted
-from .controls import Controls, controls_in, counts_of, no_rows, together, tree_of
+from .controls import Controls, controls_in, counts_of, together, tree_of
 from .defaults import CLASS, DEFAULT, ORDERS, SOURCES, distinct
 from .filed import FiledTable, Whole, read_tables
 from .found import found_of
@@ -317,8 +316,7 @@ def read_into(
                 raise RefusedFaults(repeated)
         writer.add_parts(read)
         writer.succeed(words)
-        rows = [*itertools.starmap(no_rows, sheets.items())]
-        controls = together([*rows, *(part.controls for part in read)])
+        controls = together(part.controls for part in read)
         facts = facts_of(filed, whole, read, words)
         facts["controls"] = tree_of(controls)
         facts["counts"] = counts_in(filed, read, controls, writer.pasts())

@@ -124,25 +124,25 @@ def names_of_files(sheet: Sheet) -> list[str]:
     return names
 
 
-def no_rows(kind: str, sheet: Sheet) -> Controls:
-    """Returns the controls of a table before its rows are read."""
-    return {(kind, name, USED): Control() for name in names_of_files(sheet)}
-
-
 def whole_numbers(numbers: Iterable[Fraction | None]) -> tuple[list[int], int]:
     """Returns numbers, of which None is 0, as whole ones, and how many of these are 1."""
     known = [number or NONE for number in numbers]
     scale = math.lcm(*(number.denominator for number in known))
-    return [number.numerator * (scale // number.denominator) for number in known], scale
+    return [int(number * scale) for number in known], scale
 
 
 class _Groups:
-    """The rows of a table by group: their file, and what became of them."""
+    """The rows of a table by group: their file, and what became of them. `unread` are those with an amount that can't be
+    read."""
 
     def __init__(self, table: TableReader, factors: Mapping[str, int]) -> None:
         """Takes how many items a unit of measure counts as."""
         self.table = table
         self.columns = table.rows.columns
+        files = table.rows.lines >> FILE_BITS
+        self.codes: Numbers = files * len(STATES) + table.states
+        self.count = int(self.codes.max(initial=-1)) + 1
+        self.unread: Flags = np.zeros(len(self.codes), bool)
         # How many items a unit of measure has by the code of a row, and how many of these numbers are 1.
         self.sizes, self.size = [1], 1
         self.sized = "factor" if "factor" in self.columns else "measure"
@@ -152,100 +152,91 @@ class _Groups:
         elif "measure" in self.columns:
             units = map(text_of, self.columns["measure"].distinct)
             self.sizes = [factors.get(unit, 1) for unit in units]
-        files = table.rows.lines >> FILE_BITS
-        self.codes: Numbers = files * len(STATES) + table.states
-        self.count = int(self.codes.max(initial=-1)) + 1
 
     def numbers(self, role: str) -> tuple[npt.NDArray[Any], int]:
         """Returns the number of each row in a column, 0 of one that has none, as `whole_numbers` does."""
         column = self.columns[role]
-        known = map(self.table.amounts[role].known, column.distinct)
+        known = [*map(self.table.amounts[role].known, column.distinct)]
+        unread = [
+            code
+            for code, cell in enumerate(column.distinct)
+            if cell != "" and known[code] is None
+        ]
+        self.unread |= self.table.rows.having(role, unread)
         numbers, scale = whole_numbers(known)
         largest = max(-min(numbers, default=0), max(numbers, default=0))
-        most = largest * max(self.sizes, default=1) * len(self.codes)
-        kind = np.int64 if most < MOST_EXACT else object
+        most = largest * max(self.sizes, default=1)
+        kind = np.int64 if most * len(self.codes) < MOST_EXACT else object
         return column.of_rows(numbers, kind), scale
 
-    def unread(self, roles: Iterable[str]) -> list[int]:
-        """Returns how many rows of each group have an amount that can't be read."""
-        unread: Flags = np.zeros(len(self.codes), bool)
-        for role in roles:
-            column, known = self.columns[role], self.table.amounts[role].known
-            cells = (cell != "" and known(cell) is None for cell in column.distinct)
-            unread |= column.of_rows(cells, bool)
-        counts: list[int] = np.bincount(self.codes[unread], None, self.count).tolist()
-        return counts
-
-    def sums(self, role: str) -> list[Fraction]:
-        """Returns the sum of a column's numbers in each group."""
-        numbers, scale = self.numbers(role)
+    def sums(self, numbers: npt.NDArray[Any], scale: int) -> list[Fraction]:
+        """Returns the sum of numbers in each group."""
         sums = sums_of(self.codes, numbers, self.count)
         return [Fraction(total, scale) for total in sums.tolist()]
 
-    def worths(self, role: str, price_of: PriceOf) -> dict[int, Fraction]:
-        """Returns what the items of a column are worth in each group with a price."""
-        numbers, scale = self.numbers(role)
+    def worths(
+        self, numbers: npt.NDArray[Any], price_of: PriceOf, packs: Fraction
+    ) -> dict[int, Fraction]:
+        """Returns what numbers of packs of items are worth in each group with a price."""
         if self.sized in self.columns:
             sizes = self.columns[self.sized].of_rows(self.sizes, numbers.dtype.type)
             numbers = numbers * sizes
-        size = len(self.columns["item"].distinct)
-        keys = self.codes * size + self.columns["item"].codes
-        sums = sums_of(keys, numbers, self.count * size)
-        known = np.flatnonzero(np.bincount(keys)).tolist()
-        prices = {item: price_of(item) for item in {key % size for key in known}}
-        numbers_of_prices, part = whole_numbers(prices.values())
-        whole_prices = dict(zip(prices, numbers_of_prices))
-        worths = dict[int, int]()
-        for key in known:
-            group, item = divmod(key, size)
-            if prices[item] is not None:
-                worth = int(sums[key]) * whole_prices[item]
-                worths[group] = worths.get(group, 0) + worth
-        packs = self.table.factors.get(role, 1) / Fraction(scale * part * self.size)
-        return {group: worth * packs for group, worth in worths.items()}
+        items = self.columns["item"]
+        keys = self.codes * len(items.distinct) + items.codes
+        sums = sums_of(keys, numbers, self.count * len(items.distinct))
+        worths = dict[int, Fraction]()
+        for key in np.flatnonzero(np.bincount(keys)).tolist():
+            group, item = divmod(key, len(items.distinct))
+            price = price_of(item)
+            if price is not None:
+                worths[group] = worths.get(group, NONE) + int(sums[key]) * price
+        return {group: worth * packs / self.size for group, worth in worths.items()}
 
     def ends(self, role: str) -> dict[int, tuple[Day, Day]]:
         """Returns the first and the last date of each group that has one."""
         column = self.columns[role]
         days, wrong = values_of(column.distinct, self.table.dates.day, Day.min)
         numbers = column.of_rows(map(Day.toordinal, days), np.int64)
-        rows = np.flatnonzero(~self.table.rows.having(role, wrong))
-        known = numbers[rows]
-        order = np.lexsort((known, self.codes[rows]))
-        groups, firsts = np.unique(self.codes[rows][order], return_index=True)
-        lasts = [*firsts[1:], len(order)]
+        rows = ~self.table.rows.having(role, wrong)
+        firsts = np.full(self.count, Day.max.toordinal())
+        lasts = np.zeros_like(firsts)
+        np.minimum.at(firsts, self.codes[rows], numbers[rows])
+        np.maximum.at(lasts, self.codes[rows], numbers[rows])
         ends = dict[int, tuple[Day, Day]]()
-        for group, first, last in zip(groups.tolist(), firsts, lasts):
-            first_day, last_day = known[order[[first, last - 1]]].tolist()
-            ends[group] = Day.fromordinal(first_day), Day.fromordinal(last_day)
+        for group in np.unique(self.codes[rows]).tolist():
+            first, last = int(firsts[group]), int(lasts[group])
+            ends[group] = Day.fromordinal(first), Day.fromordinal(last)
         return ends
 
 
 def controls_of(
     table: TableReader, price_of: PriceOf, factors: Mapping[str, int]
 ) -> Controls:
-    """Returns the controls of the rows of a table, by the price of each item. A unit of measure counts so many items as
-    `factors` says."""
+    """Returns the controls of the rows of a table, by the price of each item, also of files without rows. A unit of measure
+    counts so many items as `factors` says."""
     groups = _Groups(table, factors)
-    columns = table.rows.columns
-    roles = [role for role in SUMMED[table.kind] if role in columns]
-    sums = {role: groups.sums(role) for role in roles}
-    unread = groups.unread(roles)
+    roles = [role for role in SUMMED[table.kind] if role in groups.columns]
+    sums = dict[str, list[Fraction]]()
     worths = dict[int, Fraction]()
     ends = dict[int, tuple[Day, Day]]()
-    if roles:
-        worths = groups.worths(roles[0], price_of)
+    for role in roles:
+        numbers, scale = groups.numbers(role)
+        sums[role] = groups.sums(numbers, scale)
+        if role == roles[0]:
+            packs = Fraction(table.factors.get(role, 1)) / scale
+            worths = groups.worths(numbers, price_of, packs)
     date = DATED.get(table.kind)
-    if date in columns:
+    if date in groups.columns:
         ends = groups.ends(date)
+    unread = np.bincount(groups.codes[groups.unread], minlength=groups.count)
     names = names_of_files(table.rows.sheet)
-    controls: Controls = {}
+    controls: Controls = {(table.kind, name, USED): Control() for name in names}
     for group, size in enumerate(np.bincount(groups.codes).tolist()):
         if size:
             file, state = divmod(group, len(STATES))
             amounts = {role: sums[role][group] for role in roles}
             first, last = ends.get(group, (None, None))
             controls[table.kind, names[file], STATES[state]] = Control(
-                size, amounts, worths.get(group), first, last, unread[group]
+                size, amounts, worths.get(group), first, last, int(unread[group])
             )
     return controls

@@ -6,8 +6,8 @@ from collections import defaultdict
 from collections.abc import Iterable, Iterator, Mapping, Sequence
 from dataclasses import dataclass, field
 from fractions import Fraction
-from functools import cached_property, reduce
-from operator import add, attrgetter
+from functools import cached_property
+from operator import attrgetter
 from types import MappingProxyType
 from typing import Any
 
@@ -20,7 +20,7 @@ from .asked import ORDERED
 from .asking import closed_rows, question, questions, sizes_of
 from .cells import CellFault, Flags, fault, reason_of, text_of
 from .choosing import PLACE, said_of_marks, split_items
-from .controls import Controls, controls_of, counts_of, no_rows, together
+from .controls import Controls, controls_of, counts_of
 from .items import FileCounts, Reject, Reading
 from .observed import Day
 from .opening import Table
@@ -51,9 +51,6 @@ class OnHand:
     def of(cls, stock: Fraction, owed: Fraction = NONE) -> OnHand:
         """Returns what a stock says, of which what is below 0 is owed, with more that is."""
         return cls(max(stock, NONE), owed + max(-stock, NONE))
-
-    def __add__(self, other: OnHand) -> OnHand:
-        return OnHand(self.stock + other.stock, self.owed + other.owed)
 
 
 @dataclass(frozen=True)
@@ -91,11 +88,13 @@ class _Reader:
         self,
         kind: str,
         sheet: Sheet,
-        prices: Mapping[str, Fraction | None],
         words: Reading,
+        prices: Mapping[str, Fraction | None],
+        packs: Mapping[str, int],
     ) -> None:
-        self.prices = prices
-        self.unread = set[str]()
+        """Takes the packs of items, if they are not of one item."""
+        self.kind, self.prices, self.packs = kind, prices, packs
+        self.unread, self.judged = set[str](), set[str]()
         self.rejects = list[Reject]()
         self.table = TableReader.of(kind, sheet, self.rejects.append)
         self.rows = self.table.rows
@@ -118,10 +117,11 @@ class _Reader:
 
     def is_of(self, sheet: Sheet) -> bool:
         """Returns whether a table is in the same files as the one that was read, and nobody has changed these since."""
-        files, others = self.rows.sheet.files, sheet.files
-        return all(file.path for file in files) and [
-            (file.name, file.state) for file in files
-        ] == [(file.name, file.state) for file in others]
+        files, others = (
+            [(file.name, file.state) for file in table.files]
+            for table in (self.rows.sheet, sheet)
+        )
+        return files == others and all(file.path for file in sheet.files)
 
     def _read(self, row: int) -> tuple[dict[str, Any], list[CellFault]]:
         """Returns the values of a row by role, and what is wrong with its cells."""
@@ -139,13 +139,13 @@ class _Reader:
         if size is None:
             size = self.sizes[text_of(self.rows.cell("measure", row))]
         items = dict[str, Any]()
-        for role in AMOUNTS[self.table.kind].keys() & values.keys():
+        for role in AMOUNTS[self.kind].keys() & values.keys():
             column = self.rows.sheet.columns[role]
             items[role] = values[role] * (1 if column.unit_said else size)
         if "ordered" in items and "quantity" not in items:
             less = items.get("received", NONE) + items.get("cancelled", NONE)
             items["quantity"] = max(items["ordered"] - less, NONE)
-        if self.table.kind == ON_ORDER:
+        if self.kind == ON_ORDER:
             items["filed"] = self._filed(row, items, size)
         return items
 
@@ -179,6 +179,7 @@ class _Reader:
             return None
         column, values = rows.sheet.columns["date"], rows.counts("date")
         days = self.table.read_days("date")
+        del self.table.wrong["date"]  # A row counts, whatever its day is.
         last = days.max(where=good, initial=0)
         day = Day.fromordinal(int(last)) if last else None
         places = [rows.columns[it].codes for it in marks if marks[it].use == PLACE]
@@ -211,59 +212,36 @@ class _Reader:
                 "most": f"{float(owed - stock):g}",
             }
             yield fault("owed", self.rows.cell("owed", row), "owed twice", **facts)
+        if self.kind == QUANTITIES:
+            yield from self._judged_quantity(row, values["quantity"])
+
+    def _judged_quantity(self, row: int, quantity: Fraction) -> Iterator[CellFault]:
+        """Yields what is wrong with what a planner orders of an item of the plan, in one row."""
+        name = self.names[self.rows.items[row]]
+        if name not in self.prices:
+            return
+        if name in self.judged:
+            yield fault("item", name, "several quantities", item=name)
+        self.judged.add(name)
+        wrong = quantity_fault(quantity, name, self.packs.get(name, 1))
+        if wrong:
+            yield "quantity", self.rows.cell("quantity", row), wrong
 
     @cached_property
     def found(self) -> dict[str, list[dict[str, Any]]]:
-        """Returns the values of the rows of items: see `items`."""
-        return dict(self.items())
-
-    @cached_property
-    def filed(self) -> dict[str, list[Fraction]]:
-        """Returns what was ordered in each row of open orders, by item, also in closed ones."""
-        read = [(name, values) for name, rows in self.found.items() for values in rows]
-        for row in np.flatnonzero(self.closed).tolist():
-            values, faults = self._read(row)
-            read += [] if faults else [(self.names[self.rows.items[row]], values)]
-        filed = defaultdict[str, list[Fraction]](list)
-        for name, values in read:
-            filed[name].append(values["filed"])
-        return dict(filed)
-
-    @cached_property
-    def hands(self) -> dict[str, OnHand]:
-        """Returns what items have by a table of stock."""
-        return {
-            name: reduce(
-                add, [OnHand.of(row["stock"], row.get("owed", NONE)) for row in rows]
-            )
-            for name, rows in self.found.items()
-        }
-
-    @cached_property
-    def controls(self) -> Controls:
-        """Returns what the rows come to, by file and by what became of them."""
-        controls = controls_of(
-            self.table, lambda item: self.prices.get(self.names[item]), self.sizes
-        )
-        return together([no_rows(self.table.kind, self.rows.sheet), controls])
-
-    def remarks(self) -> Iterator[Remark]:
-        """Yields what is to be said of the rows: over which places items are summed, and states of rows."""
-        yield from said_of_marks(self.table.kind, self.rows, split_items(self.rows))
-        yield from self.said
-
-    def items(self) -> Iterator[tuple[str, list[dict[str, Any]]]]:
-        """Yields the items of the plan with the values of their rows, but for those with a row that can't be read."""
+        """Returns the items of the plan with the values of their rows, but for those with a row that can't be read."""
         good = self.rows.good
         lines = self.rows.lines.tolist()
         twins = self.rows.twins(good)
         rows_of = self.rows.by_item(good)
         became = np.full(len(self.names), PLACES[OPEN], np.int8)
+        found = dict[str, list[dict[str, Any]]]()
         for item in np.unique(self.rows.items[good]).tolist():
-            rows = rows_of(item).tolist()
             name = self.names[item]
-            read = [self._read(row) for row in rows]
-            for row, (_, faults) in zip(rows, read):
+            read = list[dict[str, Any]]()
+            rows = rows_of(item).tolist()
+            for row in rows:
+                values, faults = self._read(row)
                 if faults:
                     self.unread.add(name)
                     self.table.reject(row, faults)
@@ -271,35 +249,52 @@ class _Reader:
                     first = self.rows.sheet.called(lines[twins[row]])
                     twin = fault("item", name, "equal rows", first=first)
                     self.table.name("suspicious", lines[row], name, [twin])
+                read.append(values)
             is_used = name in self.prices and name not in self.unread
             became[item] = PLACES[USED if is_used else WITH_ITEM]
             if is_used:
-                yield name, [values for values, _ in read]
+                found[name] = read
             elif name not in self.unread:
                 unknown = fault("item", name, "not in the plan")
                 self.table.name("item", lines[rows[0]], name, [unknown])
         self.table.close(became)
+        return found
 
+    @cached_property
+    def filed(self) -> dict[str, list[Fraction]]:
+        """Returns what was ordered in each row of open orders, by item, also in closed ones."""
+        filed = defaultdict[str, list[Fraction]](list)
+        for name, rows in self.found.items():
+            filed[name] += [values["filed"] for values in rows]
+        for row in np.flatnonzero(self.closed).tolist():
+            values, faults = self._read(row)
+            if not faults:
+                filed[self.names[self.rows.items[row]]].append(values["filed"])
+        return dict(filed)
 
-class _QuantityReader(_Reader):
-    """Reads what a planner orders of items, in one row each."""
+    @cached_property
+    def hands(self) -> dict[str, OnHand]:
+        """Returns what items have by a table of stock."""
+        hands = dict[str, OnHand]()
+        for name, rows in self.found.items():
+            places = [OnHand.of(row["stock"], row.get("owed", NONE)) for row in rows]
+            stock = sum((place.stock for place in places), NONE)
+            hands[name] = OnHand(stock, sum((place.owed for place in places), NONE))
+        return hands
 
-    def __init__(self, packs: Mapping[str, int], *words: Any) -> None:
-        """Takes the packs of items, if they are not of one item."""
-        super().__init__(*words)
-        self.packs = packs
-        self.read = set[str]()
+    @cached_property
+    def controls(self) -> Controls:
+        """Returns what the rows come to, by file and by what became of them."""
 
-    def _judged(self, row: int, values: Mapping[str, Any]) -> Iterator[CellFault]:
-        name = str(self.rows.cell("item", row))
-        if name not in self.prices:
-            return
-        if name in self.read:
-            yield fault("item", name, "several quantities", item=name)
-        self.read.add(name)
-        wrong = quantity_fault(values["quantity"], name, self.packs.get(name, 1))
-        if wrong:
-            yield "quantity", self.rows.cell("quantity", row), wrong
+        def price_of(item: int) -> Fraction | None:
+            return self.prices.get(self.names[item])
+
+        return controls_of(self.table, price_of, self.sizes)
+
+    def remarks(self) -> Iterator[Remark]:
+        """Yields what is to be said of the rows: over which places items are summed, and states of rows."""
+        yield from said_of_marks(self.kind, self.rows, split_items(self.rows))
+        yield from self.said
 
     def quantities(self) -> dict[str, Quantity]:
         """Returns the quantities of items. Raises RefusedFaults with all that is wrong: nothing is ordered by a table that
@@ -307,11 +302,8 @@ class _QuantityReader(_Reader):
         quantities = dict[str, Quantity]()
         for name, (row, *_) in self.found.items():
             quantities[name] = Quantity(int(row["quantity"]), row.get("reason") or "")
-        faults = [
-            Fault(reject.remark, reject.file, reject.line)
-            for reject in self.rejects
-            if reject.kind == "row"
-        ]
+        rejects = (reject for reject in self.rejects if reject.kind == "row")
+        faults = [Fault(it.remark, it.file, it.line) for it in rejects]
         if faults:
             raise RefusedFaults(sorted(faults, key=attrgetter("file", "line")))
         return quantities
@@ -333,19 +325,16 @@ def read_holdings(
     readers = dict[str, _Reader]()
     with open_tables(tables, words) as sheets:
         for kind, sheet in sheets.items():
-            given = kind, sheet, prices, words
             if kind in known and known[kind].is_of(sheet):
                 readers[kind] = known[kind]
-            elif kind == QUANTITIES:
-                readers[kind] = _QuantityReader(packs, *given)
             else:
-                readers[kind] = _Reader(*given)
+                readers[kind] = _Reader(kind, sheet, words, prices, packs)
     _check_asked(readers.values())
     stock, on_order = readers.get(STOCK), readers.get(ON_ORDER)
     arrivals = defaultdict[str, list[Arrival]](list)
     quantities = dict[str, Quantity]()
     for kind, reader in readers.items():
-        if isinstance(reader, _QuantityReader):
+        if kind == QUANTITIES:
             quantities = reader.quantities()
         for name, rows in reader.found.items() if kind in TO_COME else ():
             lines = [row for row in rows if row["quantity"]]
