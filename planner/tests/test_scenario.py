@@ -22,7 +22,6 @@ from crnplan.law import Law
 from crnplan.named_policies import read_policies
 from crnplan.policies import Policy, policies_of
 from crnplan.scenario import Costs, Scenario
-from crnplan.toml import scenarios
 from crnplan.toml.scenarios import faults_of
 from planner.tests.conftest import Command, cases_beside
 from planner.tests.decide.answers import report_of
@@ -218,61 +217,18 @@ def test_wrong_tables(scenario: Scenario) -> None:
         made(setup=1 / 3)
 
 
-def test_comments_are_kept(monkeypatch: pytest.MonkeyPatch) -> None:
-    """Comments are kept; those at the top alone if a text with the others would not have the tree."""
+def test_comments_at_the_top_are_kept() -> None:
+    """A scenario that says what its source says is that text; another one has the comments at the top of it."""
     asked = Scenario.parse(COMMENTED)
-    changed = asked.changed(
-        initial=61,
-        costs={"holding": 2},
-        demand=[3, 3, 7],
-        policies={"A": (21, 40), "B": (60, 81)},
-    )
-    wanted = (
-        COMMENTED.replace("6_0 ", "61 ")
-        .replace("holding = 1", "holding = 2")
-        .replace("[1, 2, 3, 4]", "[3, 7]")
-        .replace("[1, 2, 2, 1]", "[2, 1]")
-        .replace("s = 20", "s = 21")
-        .replace("S = 80", "S = 81")
-    )
-    assert changed.toml() == wanted
+    changed = asked.changed(initial=61, returns={0: 1, 1: 1}, policies=[(1, 2)])
     assert changed.source == asked.source
-    back = changed.changed(
-        initial=60, costs=asked.costs, demand=asked.demand, policies=asked.policies
-    )
-    assert back.toml() == COMMENTED
-    monkeypatch.setattr(scenarios, "_merged_text", lambda source, tree: source)
-    changed = Scenario.parse(COMMENTED).changed(initial=61)
+    assert changed.version == 2
     text = changed.toml()
     assert tomllib.loads(text) == changed.tree
-    assert text.startswith("# A spare part.\n")
+    assert text.startswith("# A spare part.\nversion = 2\n")
     assert text.count("#") == 1
-
-
-def test_comments_with_other_policies_and_tables() -> None:
-    """Comments of what is gone go too, the others stay, and the text has the scenario's tree."""
-    changed = Scenario.parse(COMMENTED).changed(policies=[(1, 2)], returns={0: 1, 1: 1})
-    assert changed.version == 2
-    assert tomllib.loads(changed.toml()) == changed.tree
-    assert changed.toml().startswith("# A spare part.\nversion = 2 # no returns\n")
-    assert "2019" not in changed.toml()
-    back = changed.changed(returns=None)
-    assert back.version == 1
-    assert back.returns is None
-    assert tomllib.loads(back.toml()) == back.tree
-    commented = EXAMPLES[1].read_text("utf-8").replace("[lead]", "[lead] # in weeks")
-    free = Scenario.parse(commented).changed(returns=None)
-    assert tomllib.loads(free.toml()) == free.tree
-    assert "returns" not in free.tree
-    assert "# in weeks" in free.toml()
-    policy = 'policy = [{ name = "A", s = 1, S = 2, },]'
-    inline = COMMENTED.split("# since")[0].replace(
-        "version = 1 ", f"version = 1\n{policy} "
-    )
-    for policies in ({"A": (3, 4)}, {"B": (3, 4), "C": (5, 6)}):
-        changed = Scenario.parse(inline).changed(policies=policies)
-        assert tomllib.loads(changed.toml()) == changed.tree
-        assert "# in cents\n" in changed.toml()
+    back = changed.changed(initial=60, returns=None, policies=asked.policies)
+    assert back.toml() == COMMENTED
 
 
 @settings(max_examples=40)

@@ -1,4 +1,4 @@
-"""Changes fields of a scenario as a tree, and checks it."""
+"""Changes fields of a scenario as a tree."""
 from __future__ import annotations
 
 import dataclasses
@@ -9,19 +9,12 @@ from . import formats
 from .errors import Refused
 from .law import law_of
 from .money import Costs, whole
-from .policies import Policy, policies_of
+from .policies import policies_of
 from .store.digests import sha256
 from .toml.documents import shown
-from .toml.scenarios import checked_tree
 
 # The fields that `Scenario.changed` takes.
 CHANGEABLE = (*(name for name in formats.SINCE if name != "policy"), "policies")
-
-
-def check_tree(tree: dict[str, Any], has_policies: bool) -> None:
-    """Raises ScenarioError with all faults of a tree. One that needs no policies is checked with some."""
-    some = tree if has_policies else {**tree, "policy": [vars(Policy("none", 0, 0))]}
-    checked_tree(some)
 
 
 def change_tree(tree: dict[str, Any], changes: Mapping[str, Any]) -> None:

@@ -13,9 +13,15 @@ from typing import TYPE_CHECKING, Any
 
 from .arguments import judged
 from . import formats
-from .changing import change_tree, check_tree, key_words
+from .changing import change_tree, key_words
 from .toml.documents import check_size, read_bytes, text_of_document
-from .toml.scenarios import error_of, plain_text, read_scenario, toml_text
+from .toml.scenarios import (
+    check_tree,
+    error_of,
+    plain_text,
+    read_scenario,
+    toml_text,
+)
 from .errors import Refused
 from .law import Chances, Law, law_of
 from .money import Amount, Costs as Costs, scaled_costs, whole
@@ -28,6 +34,7 @@ if TYPE_CHECKING:
     from .theory.suggestions import ByTheory, Suggestions
 
 Tree = dict[str, Any]
+NO_POLICY = range(1)  # the number of policies of a scenario that is made without one
 # What is said of all figures of a scenario.
 BY_ITS_LAWS = "by this law of demand, and this law of lead times; the history allows others, as the page of an item says"
 
@@ -234,7 +241,7 @@ class Scenario:
             whole(replications, "replications"),
             key,
         )
-        check_tree(made.tree, bool(levels))
+        check_tree(made.tree, NO_POLICY)
         is_known = levels is not None or initial is not None
         return dataclasses.replace(made, scale=scale, has_initial=is_known)
 
@@ -309,7 +316,8 @@ class Scenario:
             tree["costs"], scale = scaled_costs(known | amounts)
         if "returns" in changes and "version" not in changes:
             tree["version"] = formats.version_with(tree)
-        check_tree(tree, bool(self.policies) or "policies" in changes)
+        is_bare = not self.policies and "policies" not in changes
+        check_tree(tree, NO_POLICY if is_bare else ())
         made = Scenario.of_tree(tree, self.source)
         has_initial = self.has_initial or "initial" in changes
         return dataclasses.replace(made, scale=scale, has_initial=has_initial).started()
@@ -322,7 +330,7 @@ class Scenario:
         return dataclasses.replace(self, policies=tuple(policies))
 
     def toml(self) -> str:
-        """Returns the scenario as the program reads it: with the comments of its source, if it has one."""
+        """Returns the scenario as the program reads it: its source, if that says the same, else with the comments at its top."""
         if self.source is not None:
             return toml_text(self.tree, self.source)
         return f"# Costs: {self.scale} for one unit of money\n\n" * (

@@ -29,7 +29,7 @@ from .. import formats
 from ..arguments import judged
 from ..columns import columns_of
 from ..toml.documents import shown
-from ..toml.scenarios import checked_tree, name_faults, plain_text
+from ..toml.scenarios import MANY, check_tree, name_faults, plain_text
 from ..errors import Fault, ProgramError, Refused, argument
 from ..policies import Policy
 from ..scenario import Costs, Scenario
@@ -283,7 +283,7 @@ def report_of(scenario: Scenario, program: str | Path | None = None) -> Report:
 
     Raises ScenarioError with all faults, Refused without a review in each period, and ProgramError.
     """
-    checked_tree(scenario.tree, any_number=True)
+    check_tree(scenario.tree, MANY)
     if scenario.review > 1:
         raise Refused("crnsim reviews in each period, and this scenario does not")
     found, parts = find_program(program), parts_of(scenario)

@@ -27,7 +27,7 @@ from ..table import DataTable, Result, names_of
 from ..theory.lattice import NoTheory
 from ..theory.long_run import LongRun
 from ..theory.run_effects import StartBias, end_effects, start_bias, theory_of
-from ..toml.scenarios import checked_tree
+from ..toml.scenarios import MANY, check_tree
 from .verdicts import (
     FEWEST_ORDERS,
     MOST_ROWS,
@@ -226,7 +226,7 @@ def long_scenario(scenario: Scenario, keys: int) -> Scenario:
         raise Refused(
             f"{argument('keys', str(keys))}: the long run takes {LEAST_KEYS} to {MOST_KEYS} keys"
         )
-    checked_tree(scenario.tree, any_number=True)
+    check_tree(scenario.tree, MANY)
     base = scenario.base
     position = theory_of(scenario.with_policies([base])).mean_position(base.s, base.S)
     initial = min(max(round(position), 0), formats.MOST_ITEMS)

@@ -16,6 +16,7 @@ import math
 from collections.abc import Iterable, Iterator, Sequence
 from dataclasses import dataclass
 from fractions import Fraction
+from typing import Any
 
 from ..formats import MOST_ITEMS, POLICIES
 from ..remarks import Remark
@@ -23,7 +24,6 @@ from ..policies import Policy
 from ..scenario import BY_ITS_LAWS, Scenario
 from ..columns import columns_of
 from ..table import DataTable, Json, Result
-from ..toml.documents import read_document
 from ..toml.scenarios import head_of, plain_text
 from ..words import sentence
 from .figures import Figures
@@ -336,8 +336,7 @@ class Suggestions(Result):
         The comment at the top stays. All costs are in the program's whole numbers. `initial` writes the proposed start, `unit_zero` an item cost of 0.
         """
         source, scale = self.scenario.toml(), self.scenario.scale
-        tree, _ = read_document(source.encode())
-        tree["policy"] = []
+        tree: dict[str, Any] = {**self.scenario.tree, "policy": []}
         if initial or not self.scenario.has_initial:
             tree["initial"] = self.initial
         if unit_zero:

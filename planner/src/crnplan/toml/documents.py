@@ -143,12 +143,20 @@ class SpeltFloat(float):
         return value
 
 
-def _no_document(what: str, text: str = "", offset: int | None = None) -> TreeFault:
-    """Returns fault 1 at an offset of a text, or of the whole document."""
-    if offset is None:
-        return TreeFault(1, (), what)
-    line, column = text.count("\n", 0, offset) + 1, offset - text.rfind("\n", 0, offset)
-    return TreeFault(1, (), what, line=line, column=column)
+def _no_document(what: str, line: int = 0, column: int = 0) -> TreeFault:
+    """Returns fault 1 at a place, or of the whole document."""
+    return TreeFault(1, (), what, "", line, column)
+
+
+def place_in(starts: list[int], offset: int) -> Place:
+    """Returns the place of an offset in a text whose lines start so."""
+    line = bisect_right(starts, offset)
+    return line, offset - starts[line - 1] + 1
+
+
+def line_starts(text: str) -> list[int]:
+    """Returns the offset of each line."""
+    return [0, *(match.end() for match in re.finditer("\n", text))]
 
 
 def _unread(text: str, fault: tomllib.TOMLDecodeError) -> TreeFault:
@@ -159,21 +167,7 @@ def _unread(text: str, fault: tomllib.TOMLDecodeError) -> TreeFault:
     if place:
         starts = line_starts(older_text(text))
         offset = starts[int(place[1]) - 1] + int(place[2]) - 1
-    return _no_document(message, text, offset)
-
-
-def line_starts(text: str) -> list[int]:
-    """Returns the offset of each line."""
-    return [0, *(match.end() for match in re.finditer("\n", text))]
-
-
-def _huge_fault(text: str, huge: int) -> TreeFault:
-    """Returns fault 1 of an integer beyond 64 bits: no TOML document has one, though Python's reader takes it."""
-    spelt = None
-    if huge.bit_length() < 1000:
-        spelt = re.search(rf"(?<![0-9]){'_?'.join(str(huge))}(?![0-9])", text)
-    what = f"the integer {shown(huge)} is beyond 64 bits"
-    return _no_document(what, text, spelt.start() if spelt else None)
+    return _no_document(message, *place_in(line_starts(text), offset))
 
 
 def read_bytes(path: str | FilePath) -> bytes:
@@ -205,9 +199,10 @@ def text_of_document(data: bytes) -> str:
 def _not_utf8(data: bytes, offset: int) -> TreeFault:
     """Returns fault 1 of bytes that are no UTF-8 from an offset on."""
     if data[:2] in BYTE_ORDER_MARKS:
-        return TreeFault(1, (), "this is UTF-16, not UTF-8", line=1)
+        return _no_document("this is UTF-16, not UTF-8", 1)
     before = data[:offset].decode("utf-8")
-    return _no_document(f"the byte {data[offset]:#04x} is no UTF-8", before, offset)
+    place = place_in(line_starts(before), len(before))
+    return _no_document(f"the byte {data[offset]:#04x} is no UTF-8", *place)
 
 
 def read_document(data: bytes) -> tuple[Tree, list[TreeFault]]:
@@ -228,9 +223,10 @@ def read_document(data: bytes) -> tuple[Tree, list[TreeFault]]:
     except ValueError:
         return {}, [_no_document("an integer is beyond 64 bits")]
     faults = []
-    for _, value in parts_of(tree):
+    for path, value in parts_of(tree):
         if type(value) is int and not -(2**63) <= value < 2**63:
-            faults.append(_huge_fault(text, value))
+            what = f"the integer {shown(value)} is beyond 64 bits"
+            faults.append(TreeFault(1, path, what))
     return tree, faults
 
 
@@ -298,9 +294,9 @@ def places_of(text: str, tree: Any) -> dict[Path, Place]:
     starts = line_starts(text)
     places: dict[Path, Place] = {}
     for offset, path in sorted(marks, key=itemgetter(0)):
-        line = bisect_right(starts, offset)
+        place = place_in(starts, offset)
         for length in range(1, len(path) + 1):
-            places.setdefault(path[:length], (line, offset - starts[line - 1] + 1))
+            places.setdefault(path[:length], place)
     of_tree = {path for path, _ in parts_of(tree) if path}
     return places if places.keys() == of_tree else {}
 
@@ -310,11 +306,9 @@ def read_judged(
 ) -> tuple[Tree, list[TreeFault]]:
     """Returns the tree of a document, and with their places its faults 1, or else those that a judge finds in it."""
     tree, faults = read_document(data)
-    if faults:
+    faults = faults or judge(tree)
+    if not faults or not tree:
         return tree, faults
-    faults = judge(tree)
-    if not faults:
-        return tree, []
     places = places_of(text_of_document(data), tree)
     placed = []
     for fault in faults:

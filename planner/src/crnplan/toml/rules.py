@@ -4,8 +4,9 @@ All faults of a document are found in one pass, each with its path. What to do i
 """
 from __future__ import annotations
 
-from collections.abc import Callable, Container, Iterable, Mapping
+from collections.abc import Callable, Collection, Iterable, Mapping
 from dataclasses import dataclass
+from functools import partial
 from operator import attrgetter
 from pathlib import Path as FilePath
 from typing import Any
@@ -16,8 +17,6 @@ from .documents import DOCUMENT, Path, Tree, TreeFault, read_bytes, read_judged,
 
 # A check of a value at a path: it returns its faults.
 Check = Callable[[Path, Any], list[TreeFault]]
-# A check of the keys of a table beside each other, given its path, the table, and which keys have no fault themselves.
-JointCheck = Callable[[Path, Mapping[str, Any], Container[str]], list[TreeFault]]
 # Rules of scenarios: a key that should not be there, one that is missing, a value of a wrong kind, and one that is out
 # of its range or not of its form.
 UNKNOWN, MISSING, KIND, RANGE = (
@@ -33,65 +32,51 @@ KINDS = {
 }
 
 
-def no_faults(*checked: Any) -> list[TreeFault]:
+def no_faults(path: Path, value: Any) -> list[TreeFault]:
     """Finds no fault."""
     return []
 
 
-@dataclass(frozen=True)
-class Key:
-    """What may stand at a key, and whether it must be there."""
-
-    check: Check
-    needed: bool = False
+def unknown(path: Path, value: Any) -> list[TreeFault]:
+    """Returns the fault of a key that should not be there."""
+    return [TreeFault(UNKNOWN, path, "there should be no such key")]
 
 
 @dataclass(frozen=True)
 class Table:
-    """A table, or a list of such tables: its keys and the tables in it by name, and a check of them beside each other.
+    """The check of a table: that of each of its keys, all of which may be needed, of all together, and of `other` keys."""
 
-    `other` says what may stand at any other key, if it may have such.
-    """
+    keys: Mapping[str, Check]
+    joint: Check = no_faults
+    other: Check = unknown
+    is_whole: bool = True
 
-    keys: Mapping[str, Key | Table]
-    needed: bool = False
-    is_list: bool = False
-    joint: JointCheck = no_faults
-    other: Key | None = None
-    joint_of_list: Callable[[Path, list[Any]], list[TreeFault]] = no_faults
-
-    def faults(self, tree: Any, path: Path = ()) -> list[TreeFault]:
+    def __call__(self, path: Path, value: Any) -> list[TreeFault]:
         """Returns the faults of a table: unknown and missing keys, values, and what stands beside each other."""
-        if not isinstance(tree, dict):
-            return wrong_kind(path, tree, "a table")
-        faults: list[TreeFault] = []
-        for key in tree:
-            if key not in self.keys and self.other is None:
-                what = "there should be no such key"
-                faults.append(TreeFault(UNKNOWN, (*path, key), what))
-        for key, rule in self.keys.items():
-            if rule.needed and key not in tree:
+        if not isinstance(value, dict):
+            return wrong_kind(path, value, "a table")
+        faults = self.joint(path, value)
+        for key in self.keys if self.is_whole else ():
+            if key not in value:
                 faults.append(TreeFault(MISSING, path, f"the key {key} is missing"))
-        for key, value in tree.items():
-            known = self.keys.get(key, self.other)
-            if known is not None:
-                faults += _value_faults((*path, key), value, known)
-        spoilt = {it.path[len(path)] for it in faults if len(it.path) > len(path)}
-        return faults + self.joint(path, tree, tree.keys() - spoilt)
+        for key, part in value.items():
+            check = self.keys.get(key, self.other)
+            faults += check((*path, key), part)
+        return faults
 
 
-def _value_faults(path: Path, value: Any, rule: Key | Table) -> list[TreeFault]:
-    """Returns the faults of what stands at a key: a value, a table, or a list of tables."""
-    if isinstance(rule, Key):
-        return rule.check(path, value)
-    if not rule.is_list:
-        return rule.faults(value, path)
-    if not isinstance(value, list):
-        return wrong_kind(path, value, "a list of tables")
-    faults = [*rule.joint_of_list(path, value)]
-    for entry, table in enumerate(value, 1):
-        faults += rule.faults(table, (*path, entry))
-    return faults
+def listed(entry: Check, kind: str, joint: Check = no_faults) -> Check:
+    """Returns the check of a list, of a kind in words: of each entry, and of all together."""
+
+    def check(path: Path, value: Any) -> list[TreeFault]:
+        if not isinstance(value, list):
+            return wrong_kind(path, value, kind)
+        faults = joint(path, value)
+        for place, part in enumerate(value, 1):
+            faults += entry((*path, place), part)
+        return faults
+
+    return check
 
 
 def kind_of(value: Any) -> str:
@@ -134,41 +119,30 @@ def number(least: int, most: int) -> Check:
 
 def numbers(least: int, most: int) -> Check:
     """Returns the check of a list of whole numbers in a range: it returns each kind of fault once."""
-    one = number(least, most)
+    each = listed(number(least, most), "a list of whole numbers")
 
     def check(path: Path, value: Any) -> list[TreeFault]:
-        if not isinstance(value, list):
-            return wrong_kind(path, value, "a list of whole numbers")
-        if not value:
+        if value == []:
             return [TreeFault(RANGE, path, "the list is empty")]
-        is_whole = {*map(type, value)} == {int}
+        is_whole = isinstance(value, list) and {*map(type, value)} == {int}
         if is_whole and least <= min(value) and max(value) <= most:  # nearly always
             return []
-        faults: list[TreeFault] = []
-        for place, entry in enumerate(value, 1):
-            faults += one((*path, place), entry)
-        return first_of_each(faults)
+        return first_of_each(each(path, value))
 
     return check
 
 
-def place_text(path: Path, rules: Table) -> str:
-    """Returns a path in words, as [TABLE.TABLE] KEY."""
+def place_text(path: Path, tables: Collection[str]) -> str:
+    """Returns a path in words, as [TABLE.TABLE] KEY. The document has these tables."""
     if not path:
         return DOCUMENT
-    tables: list[str] = []
-    for part in path:
-        rule = rules.keys.get(str(part), rules.other)
-        if not isinstance(rule, Table):
+    count = int(path[0] in tables)
+    while all(isinstance(part, str) for part in path[count : count + 2]):
+        if len(path) < count + 2:
             break
-        rules = rule
-        tables.append(str(part))
-    rest_of = path[len(tables) :]
-    while len(rest_of) > 1 and all(isinstance(part, str) for part in rest_of[:2]):
-        tables.append(str(rest_of[0]))
-        rest_of = rest_of[1:]
-    rest = [f"entry {part}" if isinstance(part, int) else part for part in rest_of]
-    heading = f"[{'.'.join(tables)}]" if tables else ""
+        count += 1
+    heading = f"[{'.'.join(map(str, path[:count]))}]" if count else ""
+    rest = [f"entry {part}" if isinstance(part, int) else part for part in path[count:]]
     return " ".join(filter(None, [heading, ", ".join(rest)]))
 
 
@@ -177,10 +151,10 @@ def read_tables(path: str | FilePath, rules: Table) -> Tree:
 
     Raises Refused if it can't be read, and RefusedFaults with all that is wrong with it, by line.
     """
-    tree, broken = read_judged(read_bytes(path), rules.faults)
+    tree, broken = read_judged(read_bytes(path), partial(rules, ()))
     faults = []
     for fault in sorted(broken, key=attrgetter("line", "column")):
-        what = f"{place_text(fault.path, rules)}: {fault.reason}"
+        what = f"{place_text(fault.path, rules.keys)}: {fault.reason}"
         if fault.rule == 1:
             what = f"this is no TOML document: {fault.reason}"
         faults.append(Fault(what, str(path), fault.line, fault.column))

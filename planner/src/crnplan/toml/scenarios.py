@@ -4,31 +4,23 @@ Which scenarios crnsim takes, and which number it reports, is proved of the prog
 """
 from __future__ import annotations
 
-import contextlib
 import itertools
 import json
 import re
 import tomllib
-from collections.abc import Container, Iterator, Mapping
+from collections.abc import Collection, Iterator, Mapping
 from operator import attrgetter
 from typing import Any, TypeGuard
 
 from .. import formats
 from ..errors import ScenarioError
-from .documents import (
-    Path,
-    Tree,
-    TreeFault,
-    older_text,
-    read_judged,
-    shown,
-)
+from .documents import Path, Tree, TreeFault, older_text, read_judged, shown
 from .rules import (
     RANGE,
     Check,
-    Key,
     Table,
     first_of_each,
+    listed,
     no_faults,
     number,
     numbers,
@@ -51,25 +43,32 @@ VERSION, LENGTHS, ORDER, SUM, LEVELS, NAME, RING, COUNT = (
 )
 # So many faults are in the text of an error. Its `faults` has all.
 MOST_SHOWN = 20
-# Comment lines behind an empty line at the end of a text. They are about the table that followed.
-COMMENT_AT_END = re.compile(r"\n\n(#[^\n]*\n)+\Z")
+MANY = range(1, 1 << 31)  # policies, which are run some at a time
+
+
+def _word_faults(path: Path, word: Any) -> list[TreeFault]:
+    """Returns the faults of a word of the key of the random stream."""
+    wanted = "16 digits of 0-9a-f"
+    if not isinstance(word, str):
+        return wrong_kind(path, word, f"a text of {wanted}")
+    if formats.WORD.fullmatch(word):
+        return []
+    return [TreeFault(RANGE, path, f"{shown(word)} is not {wanted}")]
+
+
+def _count_faults(path: Path, words: list[Any]) -> list[TreeFault]:
+    """Returns the fault of a key that has not four words."""
+    if len(words) == formats.WORDS_OF_KEY:
+        return []
+    return [TreeFault(RANGE, path, f"there are {len(words)} texts, not 4")]
+
+
+KEY = listed(_word_faults, "a list of four texts", _count_faults)
 
 
 def _key_faults(path: Path, value: Any) -> list[TreeFault]:
     """Returns the faults of the key of the random stream, the first of each rule."""
-    if not isinstance(value, list):
-        return wrong_kind(path, value, "a list of four texts")
-    faults: list[TreeFault] = []
-    if len(value) != formats.WORDS_OF_KEY:
-        faults.append(TreeFault(RANGE, path, f"there are {len(value)} texts, not 4"))
-    for place, word in enumerate(value, 1):
-        at = (*path, place)
-        if not isinstance(word, str):
-            faults += wrong_kind(at, word, "a text of 16 digits of 0-9a-f")
-        elif not formats.WORD.fullmatch(word):
-            what = f"{shown(word)} is not 16 digits of 0-9a-f"
-            faults.append(TreeFault(RANGE, at, what))
-    return first_of_each(faults)
+    return first_of_each(KEY(path, value))
 
 
 def name_faults(path: Path, name: Any) -> list[TreeFault]:
@@ -108,9 +107,7 @@ def _falls(path: Path, values: list[int]) -> Iterator[TreeFault]:
             yield TreeFault(ORDER, (*path, entry), what)
 
 
-def _draws_faults(
-    path: Path, table: Mapping[str, Any], _good: Container[str]
-) -> list[TreeFault]:
+def _draws_faults(path: Path, table: Mapping[str, Any]) -> list[TreeFault]:
     """Returns the faults of values and weights beside each other: their numbers, values that do not rise, the sum."""
     values, weights = table.get("values"), table.get("weights")
     faults: list[TreeFault] = []
@@ -127,9 +124,7 @@ def _draws_faults(
     return faults
 
 
-def _levels_faults(
-    path: Path, policy: Mapping[str, Any], _good: Container[str]
-) -> list[TreeFault]:
+def _levels_faults(path: Path, policy: Mapping[str, Any]) -> list[TreeFault]:
     """Returns the fault of a policy whose reorder point is above its order-up-to level."""
     point, level = policy.get("s"), policy.get("S")
     if type(point) is not int or type(level) is not int or point <= level:
@@ -154,9 +149,7 @@ def _policies_faults(path: Path, policies: list[Any]) -> list[TreeFault]:
     return faults
 
 
-# The version is judged by itself: with another one, the rest is judged as the version that fits it.
 CHECKS: dict[str, Check] = {
-    "version": no_faults,
     "key": _key_faults,
     "ring": _ring_faults,
     "name": name_faults,
@@ -164,48 +157,43 @@ CHECKS: dict[str, Check] = {
 
 
 def _rules(version: int) -> Table:
-    tables: dict[str, dict[str, Key | Table]] = {}
-    for key in formats.KEYS:
+    """Returns the rules of a scenario, but for its version, which is judged by itself."""
+    tables: dict[str, dict[str, Check]] = {}
+    for key in formats.KEYS[1:]:
         if key.since <= version:
             in_range = numbers if key.table in formats.DRAWS else number
             check = CHECKS.get(key.name)
             if check is None:
                 check = in_range(*formats.limits(key.table, key.name))
-            own = Key(check, needed=key.name != "version")
-            tables.setdefault(key.table, {})[key.name] = own
+            tables.setdefault(key.table, {})[key.name] = check
     document = tables.pop("")
     for name, keys in tables.items():
-        document[name] = Table(keys, True)
-        if name in formats.DRAWS:
-            document[name] = Table(keys, True, joint=_draws_faults)
-    document["policy"] = Table(
-        tables["policy"],
-        True,
-        is_list=True,
-        joint=_levels_faults,
-        joint_of_list=_policies_faults,
-    )
+        joint = _draws_faults if name in formats.DRAWS else no_faults
+        document[name] = Table(keys, joint)
+    policy = Table(tables["policy"], _levels_faults)
+    document["policy"] = listed(policy, "a list of tables", _policies_faults)
     return Table(document)
 
 
 RULES = {version: _rules(version) for version in formats.VERSIONS}
-NEWEST = RULES[formats.VERSIONS[-1]]
+TABLES = {key.table for key in formats.KEYS}
 
 
 def faults_of(tree: dict[str, Any]) -> list[TreeFault]:
     """Returns all faults of a scenario's tree, the least number first, without their lines and columns."""
     faults: list[TreeFault] = []
-    version, known = tree.get("version"), formats.VERSIONS
+    rest = {**tree}
+    version, known = rest.pop("version", None), formats.VERSIONS
     if "version" not in tree:
         faults.append(TreeFault(VERSION, (), "the key version is missing"))
     elif type(version) is not int or version not in known:
         what = f"{shown(version)} is not {' or '.join(map(str, known))}"
         faults.append(TreeFault(VERSION, ("version",), what))
-    if type(version) is not int or faults:
-        version = formats.version_with(tree)
-    faults += RULES[version].faults(tree)
+    # With another version, the rest is judged as the one that fits it.
+    fitting = formats.version_with(tree) if faults else version
+    faults += RULES[fitting]((), rest)
     faults.sort(key=attrgetter("rule"))
-    return [fault._replace(where=place_text(fault.path, NEWEST)) for fault in faults]
+    return [fault._replace(where=place_text(fault.path, TABLES)) for fault in faults]
 
 
 def read_scenario(data: bytes) -> tuple[Tree, list[TreeFault]]:
@@ -223,19 +211,14 @@ def error_of(faults: list[TreeFault], file: str = "") -> ScenarioError:
     return ScenarioError(named, "\n".join(lines))
 
 
-def checked_tree(tree: Tree, any_number: bool = False) -> Tree:
-    """Returns a tree that is made, not read, if it has no fault. Raises ScenarioError with all faults.
-
-    With `any_number` it may have more policies than the program takes in one run.
-    """
-    faults = [
-        fault
-        for fault in faults_of(tree)
-        if not any_number or fault.rule != COUNT or not tree["policy"]
-    ]
+def check_tree(tree: Tree, counts: Collection[int] = ()) -> None:
+    """Raises ScenarioError with all faults of a tree that is made, not read. It may have so many policies, whatever the program
+    takes in one run."""
+    faults = faults_of(tree)
+    if len(tree["policy"]) in counts:
+        faults = [fault for fault in faults if fault.rule != COUNT]
     if faults:
         raise error_of(faults)
-    return tree
 
 
 def plain_text(tree: Tree) -> str:
@@ -263,51 +246,9 @@ def head_of(source: str) -> str:
     return "".join(itertools.takewhile(re.compile("#").match, lines))
 
 
-def _merge(old: Any, tree: Tree) -> None:
-    """Changes the table of a document to what a tree has. What is equal keeps its spelling and its comments."""
-    for key in [*old]:
-        if key not in tree:
-            del old[key]
-    for key, value in tree.items():
-        if isinstance(value, dict) and isinstance(old.get(key), dict):
-            _merge(old[key], value)
-        elif key not in old or old[key] != value:
-            old[key] = value
-
-
-def _merged_text(source: str, tree: Tree) -> str:
-    """Returns the text of a tree with the spelling and the comments of a source, as far as both agree.
-
-    Policies keep theirs only if all names and their order are the same.
-    """
-    import tomlkit
-
-    document: Any = tomlkit.parse(source)
-    others = {**tree}
-    policies = others.pop("policy")
-    names = [policy["name"] for policy in policies]
-    if names == [policy["name"] for policy in document["policy"]]:
-        for table, policy in zip(document["policy"], policies):
-            _merge(table, policy)
-        _merge(document, {**others, "policy": document["policy"]})
-        return str(document.as_string())
-    del document["policy"]
-    without = COMMENT_AT_END.sub("\n", f"{document.as_string().rstrip()}\n")
-    document = tomlkit.parse(without)
-    _merge(document, others)
-    return str(document.as_string()) + plain_text({"policy": policies})
-
-
 def toml_text(tree: Tree, source: str) -> str:
-    """Returns a tree as TOML, with the comments of the source, which is the text of a scenario; with those at its top
-    alone if they cannot be kept at their places."""
-    older = older_text(source)
-    if tomllib.loads(older) == tree:
+    """Returns a tree as TOML: the source, which is the text of a scenario, if that has it; else with the comments at its
+    top alone."""
+    if tomllib.loads(older_text(source)) == tree:
         return source
-    from tomlkit.exceptions import TOMLKitError
-
-    with contextlib.suppress(TOMLKitError, tomllib.TOMLDecodeError):
-        text = _merged_text(older, tree)
-        if tomllib.loads(text) == tree:
-            return text
     return head_of(source) + plain_text(tree)
