@@ -90,38 +90,28 @@ TABLES: Mapping[str, tuple[str, Sequence[Column]]] = {
         exchange_curve.COLUMNS,
     ),
     "curve_policies.csv": (
-        "The policies of one point of the curve.",
+        "The policies of one point of the curve, and then the items that are not on it.",
         exchange_curve.POLICY_COLUMNS,
-    ),
-    "curve_left_out.csv": (
-        "Items that are not on the curve.",
-        exchange_curve.LEFT_OUT_COLUMNS,
     ),
     "today_orders.csv": (
         "What to order on a day, the most urgent first; then items of which nothing is known.",
         ON_A_DAY["orders"],
     ),
-    "today_above.csv": (f"Items above S. {AS_ORDERS}", more(ON_A_DAY["above"])),
-    "today_dead.csv": (
-        f"Stock that nobody has asked for. {AS_ORDERS}",
-        more(ON_A_DAY["dead"]),
+    "today_lists.csv": (
+        f"Items above S, stock that nobody has asked for, items that are owed, and those that are ordered no longer. {AS_ORDERS}",
+        more(ON_A_DAY["lists"]),
     ),
-    "today_stopped.csv": (
-        f"Items that are ordered no longer. {AS_ORDERS}",
-        more(ON_A_DAY["stopped"]),
-    ),
-    "today_owed.csv": (f"Items that are owed. {AS_ORDERS}", more(ON_A_DAY["owed"])),
-    "today_classes.csv, today_suppliers.csv": (
+    "today_groups.csv": (
         "What these come to by class, and by supplier.",
-        ON_A_DAY["suppliers"],
+        ON_A_DAY["groups"],
     ),
     "today_added.csv": (
         f"What fills up orders of suppliers. {AS_ORDERS}",
         more(ON_A_DAY["added"]),
     ),
     "today_lines.csv, today_supplier_001.csv": (
-        "The orders of all suppliers line by line, and of each supplier alone; `today_suppliers.csv` says whose file is "
-        "which.",
+        "The orders of all suppliers line by line, and of each supplier alone, whose file ends with the last digits of its "
+        "`number`.",
         ON_A_DAY["lines"],
     ),
     "today_at_risk.csv": (

@@ -98,7 +98,7 @@ def test_a_pickled_curve_needs_no_folder(
     again = pickle.loads(data)
     pd.testing.assert_frame_equal(again.policies, policies)
     assert again.table.names == curve.table.names
-    assert again.left_out.records == []
+    assert again.policies.left_out.isna().all()
     assert again.text == curve.text
 
 

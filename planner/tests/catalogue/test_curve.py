@@ -2,6 +2,7 @@
 from __future__ import annotations
 
 import csv
+import itertools
 import re
 import shutil
 import sqlite3
@@ -19,7 +20,6 @@ from crnplan.curve.candidates import Candidates, candidates_of
 from crnplan.curve.budget import Budget, chosen_by, with_more_orders
 from crnplan.curve.exchange_curve import (
     CURVE,
-    LEFT_OUT,
     POLICIES,
     Drawn,
     exchange_curve,
@@ -36,7 +36,7 @@ from planner.tests.catalogue.made import NO_PLAN, TODAY, Made
 from planner.tests.conftest import Command, shared
 from planner.tests.planned_tables import whole_table
 
-TABLES = (CURVE, POLICIES, LEFT_OUT)
+TABLES = CURVE, POLICIES
 ITEMS = 20
 NO_PRICE, NO_TODAY = ("A-036", "A-040"), "A-039"
 
@@ -97,7 +97,6 @@ def test_points_are_known_without_a_curve(twenty: Path) -> None:
         assert totals.stock_and_service(name) == wanted
     said = "\nToday counts the chosen policy of 1 items that have none today.\n"
     assert said in found.text
-    assert pd.read_csv(twenty / POLICIES).s_today.isna().sum() == 1
 
 
 def test_named_points(twenty: Path) -> None:
@@ -199,7 +198,8 @@ def test_budget_is_kept(plan: Path, budget: Budget) -> None:
     assert 0 <= gap < 0.5
     sums = np.zeros(4)
     with planned_folder(plan) as folder:
-        for row in csv.DictReader((plan / POLICIES).open(encoding="utf-8")):
+        rows = csv.DictReader((plan / POLICIES).open(encoding="utf-8"))
+        for row in itertools.takewhile(lambda row: row["left_out"] == "-", rows):
             item, _ = folder.item(row["item"])
             question, price = folder.question(item), float(item.price or 0)
             theory = question.figures(
@@ -254,11 +254,11 @@ def test_parts_of_any_size(
 
 def test_items_that_are_left_out(twenty: Path, planned: Path, tmp_path: Path) -> None:
     """Names the items without a price, and those without a plan, and counts them."""
-    left = pd.read_csv(twenty / LEFT_OUT)
+    policies = pd.read_csv(twenty / POLICIES, na_values="-")
+    left, own = policies[policies.s.isna()], policies[policies.s.notna()]
     assert [*left.item] == [*NO_PRICE]
-    assert left.reason.str.contains("no price above 0").all()
-    assert left.advice.str.contains("masters").all()
-    assert len(pd.read_csv(twenty / POLICIES)) == ITEMS - len(NO_PRICE)
+    assert left.left_out.str.match("no price above 0.*masters").all()
+    assert len(own) == ITEMS - len(NO_PRICE) and own.left_out.isna().all()
     plan = Path(shutil.copytree(planned, tmp_path / "plan"))
     change(plan / READ, "UPDATE items SET price = NULL WHERE name <> 'A-050'")
     remarks = dict(drawn(plan).gathered.parts.left_out())

@@ -8,7 +8,7 @@ import numpy as np
 import pytest
 
 import crnplan as crn
-from crnplan.curve.exchange_curve import CURVE, LEFT_OUT, POLICIES
+from crnplan.curve.exchange_curve import CURVE, POLICIES
 from crnplan.curve.gathered import gather
 from crnplan.curve.past import CurvePast, tried_of
 from crnplan.demand.learning import Prior
@@ -31,7 +31,7 @@ from planner.tests.catalogue.test_together_past import (
 )
 from planner.tests.conftest import Command
 
-TABLES = CURVE, POLICIES, LEFT_OUT
+TABLES = CURVE, POLICIES
 
 
 @pytest.fixture(scope="module")

@@ -20,7 +20,7 @@ from typing import Any
 import pytest
 
 from crnplan.curve import gathered
-from crnplan.curve.exchange_curve import CURVE, LEFT_OUT, POLICIES, exchange_curve
+from crnplan.curve.exchange_curve import CURVE, POLICIES, exchange_curve
 from crnplan.store.files import MARKER
 from crnplan.store.jobs import BATCH
 from crnplan.plan import catalogue
@@ -33,7 +33,7 @@ from planner.tests.store.clusters import SECONDS, Cluster
 # Two batches and a half. After so many runs of the program all others wait, so that a plan stops in its middle: one
 # batch at least is kept then, however the runs are spread.
 JOBS, FEW, PASSES = 2, 20, 17
-CURVE_TABLES = (CURVE, POLICIES, LEFT_OUT)
+CURVE_TABLES = CURVE, POLICIES
 PLAN, DRAW = [
     "plan",
     *WORDS,

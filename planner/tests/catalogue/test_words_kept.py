@@ -231,15 +231,15 @@ def test_today_reads_as_the_plan_did(
     def stock_by(*words: str) -> dict[str, float]:
         common = "plan --stock stock.csv --date 2026-11-02 --out today".split()
         assert crnplan("today", *common, *words).status == 0
-        names = "orders", "above"
-        return stock_in(*(pd.read_csv(f"today/today_{name}.csv") for name in names))
+        orders = pd.read_csv("today/today_orders.csv")
+        return stock_in(orders, pd.read_csv("today/today_lists.csv"))
 
     assert stock_by() == {"A": 6.0, "C": 12.0}
     other = "--column stock.stock=other --unit stock.stock=item"
     known = "--where", "stock.Bestand (VE)=*"
     assert stock_by(*other.split(), *known) == {"A": 4.0, "C": 2.0}
     orders = crn.open_plan(room / "plan").orders_today("stock.csv", date="2026-11-02")
-    assert stock_in(orders.frame, orders.above) == {"A": 6, "C": 12}
+    assert stock_in(orders.frame, orders.lists) == {"A": 6, "C": 12}
 
 
 def stock_in(*tables: pd.DataFrame) -> dict[str, float]:

@@ -58,12 +58,12 @@ def test_risk_by_hand(case: dict[str, Any]) -> None:
     assert risk.value == pytest.approx(3 * short)
 
 
-AT_RISK = """item,code,on_order,overdue,overdue_orders,next_receipt
-dear,stock ends,9.0,0.0,0,2026-12-07
-"due, and low",nothing is due,0.0,0.0,0,
-cheap,stock ends,9.0,0.0,0,2026-12-07
-"late, and full",overdue,1.0,1.0,1,
-unpriced,stock ends,9.0,0.0,0,2026-12-07
+AT_RISK = """item,on_order,overdue,days_late,next_receipt
+dear,9.0,0.0,0,2026-12-07
+"due, and low",0.0,0.0,0,
+cheap,9.0,0.0,0,2026-12-07
+"late, and full",1.0,1.0,1,
+unpriced,9.0,0.0,0,2026-12-07
 """
 
 
@@ -90,7 +90,7 @@ def test_what_is_late_or_at_risk() -> None:
     today = OrdersToday(today_of(*listed, *sound), "week")
     table = today.at_risk
     # dear: two weeks ask for 0, 4, 8: 4 items of 3; due, and low: three weeks ask for 6.
-    columns = ["item", "code", "on_order", "overdue", "overdue_orders", "next_receipt"]
+    columns = ["item", "on_order", "overdue", "days_late", "next_receipt"]
     assert table[columns].to_csv(index=False) == AT_RISK
     assert [*table.value[:3]] == pytest.approx([12, 9, 13 / 8])
     assert table.value.isna().tolist() == [False] * 4 + [True]
@@ -136,11 +136,11 @@ A,20261127-003,3,5,15,3.0,45.0,2026-11-27,2026-12-11
 B,20261127-003,20,1,20,3.0,60.0,2026-11-27,2026-12-11
 C,20261127-004,12,1,12,3.0,36.0,2026-11-27,2026-12-09
 """
-SUPPLIERS = """supplier,number,file
-,20261127-001,today_supplier_001.csv
-ABB,,
-Bosch,20261127-003,today_supplier_003.csv
-Zeiss,20261127-004,today_supplier_004.csv
+SUPPLIERS = """name,number
+,20261127-001
+ABB,
+Bosch,20261127-003
+Zeiss,20261127-004
 """
 
 
@@ -164,15 +164,17 @@ def test_lines_of_suppliers() -> None:
     # S is 20: A lacks 12, which are 3 packs of 5. A mean lead time of 5/3 weeks is 11.67 days, rounded up.
     columns = "number packs pack placed price value ordered due".split()
     assert lines[columns].to_csv() == LINES
-    assert lines.code["A"] == "below s; whole packs"
+    assert today.frame.set_index("item").code["A"] == "below s; whole packs"
     assert (
         lines.why["A"]
         == "the position 8 is below s = 9: 12 lack up to S = 20; rounded up to 3 packs of 5"
     )
-    suppliers = today.suppliers[["supplier", "number", "file"]]
-    assert suppliers.to_csv(index=False) == SUPPLIERS
+    groups = today.groups[today.groups.group == "supplier"]
+    assert groups[["name", "number"]].to_csv(index=False) == SUPPLIERS
+    files = {name for name in today.files if name.startswith("today_supplier_")}
+    assert files == {f"today_supplier_{place}.csv" for place in ("001", "003", "004")}
     alone = OrdersToday(today_of(standing_of(stock=8), sellers=[""]), "week")
-    assert [*alone.suppliers.number] == ["20261127-001"]
+    assert [*alone.groups.number] == ["", "20261127-001"]
 
 
 def test_a_file_for_each_supplier(tmp_path: Path) -> None:

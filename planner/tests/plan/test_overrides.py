@@ -115,14 +115,13 @@ def test_levels_of_a_planner(program: Path) -> None:
     assert "1 items, which cost" in plan.text
     assert "+ 1 do not order" in plan.text
     orders = plan.orders_today(date=END + datetime.timedelta(1)).frame.set_index("item")
-    assert orders.loc["A", ["s", "S", "order"]].tolist() == [5, 17, 13]
-    assert orders.loc["D", ["s", "S", "order"]].tolist() == [2, 4, 3]
+    assert orders.loc["A", ["s", "S", "placed"]].tolist() == [5, 17, 13]
+    assert orders.loc["D", ["s", "S", "placed"]].tolist() == [2, 4, 3]
     assert "B" not in orders.index
     assert "its planner has set s and S" in orders.loc["A", "why"]
-    stopped = plan.orders_today(date=END + datetime.timedelta(1)).stopped.set_index(
-        "item"
-    )
-    assert stopped["status"].to_dict() == {"B": "do not order"}
+    lists = plan.orders_today(date=END + datetime.timedelta(1)).lists
+    stopped = lists[~lists.list.isin(["above", "dead", "owed"])].set_index("item")
+    assert stopped["list"].to_dict() == {"B": "do not order"}
     assert "quality stop" in stopped.loc["B", "why"]
     assert "set" in rows.loc["A", "warnings"]
 

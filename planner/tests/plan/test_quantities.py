@@ -71,12 +71,16 @@ def test_what_is_ordered_of_a_supplier() -> None:
         ["A", 12, 12, 36],
         ["C", 12, 12, 36],
     ]
-    suppliers = orders.suppliers[["supplier", "orders", "value", "short"]]
-    assert suppliers.values.tolist() == [["ABB", 1, 24, 0], ["Bosch", 2, 72, 28]]
-    classes = orders.classes[["class", "orders", "value"]]
-    assert classes.values.tolist() == [["a", 2, 72], ["b", 1, 24]]
+    groups = orders.groups[["group", "name", "orders", "value"]]
+    assert groups.values.tolist() == [
+        ["class", "a", 2, 72],
+        ["class", "b", 1, 24],
+        ["supplier", "ABB", 1, 24],
+        ["supplier", "Bosch", 2, 72],
+    ]
+    assert orders.groups.short[2:].tolist() == [0, 28]
     assert orders.added[["item", "placed", "total"]].values.tolist() == [["D", 8, 96]]
-    assert orders.owed[["item", "placed"]].values.tolist() == [["B", 0]]
+    assert orders.lists.set_index("list").item["owed"] == "B"
     counts = "(the planner changed 1, added 1, left out 1)"
     assert orders.headline == f"{DAY}: 3 orders, worth 96.00 {counts}"
     assert "\nleft out by the planner: 17 B\n" in orders.text
@@ -121,9 +125,9 @@ def test_sums_by_pandas(folder: Path, stock: pd.DataFrame) -> None:
         assert placed.to_dict() == wanted.to_dict()
     priced = orders.lines[orders.lines.price.notna()]
     assert (priced.price * priced.placed).tolist() == pytest.approx([*priced.value])
-    assert orders.suppliers.orders.sum() == orders.classes.orders.sum() == len(wanted)
-    assert orders.suppliers.value.sum() == pytest.approx(priced.value.sum())
-    assert orders.classes.value.sum() == pytest.approx(priced.value.sum())
+    for _, groups in orders.groups.groupby("group"):
+        assert groups.orders.sum() == len(wanted)
+        assert groups.value.sum() == pytest.approx(priced.value.sum())
     planned = pd.Series({name: before.get(name, 0) for name in rows})
     own = pd.Series(rows)
     omitted, added = (planned > 0) & (own == 0), (planned == 0) & (own > 0)
@@ -131,7 +135,7 @@ def test_sums_by_pandas(folder: Path, stock: pd.DataFrame) -> None:
     assert omitted.any() and added.any() and changed.any()
     counts = f"changed {changed.sum()}, added {added.sum()}, left out {omitted.sum()})"
     assert counts in orders.headline and orders.headline in orders.text
-    codes = orders.lines.set_index("item").code
+    codes = orders.frame.set_index("item").code
     assert {*codes.index[codes.str.contains("by the plan")]} == {
         *own.index[changed | added]
     }
@@ -200,8 +204,8 @@ def test_items_without_a_policy(
     assert (line.placed, line.value) == (6, 12)
     assert line.why.endswith(f"{planned} by the plan")
     (row,) = orders.frame[orders.frame.item == "Q-1"].itertuples()
-    assert pd.isna(row.s) == pd.isna(row.S) == pd.isna(row.order) == (planned == 0)
-    assert orders.above.empty
+    assert pd.isna(row.s) == pd.isna(row.S) == (planned == 0)
+    assert not (orders.lists.list == "above").any()
     assert f"{unknown}: 5 items: " in orders.text
     owed = ", of which 1 item is owed to customers and not ordered"
     assert (owed in without.text) == (past == STOPPED)

@@ -293,15 +293,10 @@ def test_what_has_stopped_is_not_ordered(program: Path) -> None:
     orders = today.frame.set_index("item")
     assert {*orders.index} == {"ACTIVE", "YOUNG", "OUT"}
     # Packs of 2 that cover the 3 items owed.
-    assert orders.loc["OUT", ["s", "S", "order", "placed", "chance"]].tolist() == [
-        0,
-        0,
-        3,
-        4,
-        1.0,
-    ]
-    stopped = today.stopped.set_index("item")
-    assert stopped["status"].to_dict() == ended
+    names = ["s", "S", "position", "placed", "chance"]
+    assert orders.loc["OUT", names].tolist() == [0, 0, -3, 4, 1.0]
+    stopped = today.lists[today.lists.list.isin(ended.values())].set_index("item")
+    assert stopped["list"].to_dict() == ended
     assert stopped["stock"].sum() == 5 + 7
     assert stopped["value"].sum() == 4 * (5 + 7)
     assert stopped["owed"].to_dict()["GONE"] == 2
@@ -309,10 +304,11 @@ def test_what_has_stopped_is_not_ordered(program: Path) -> None:
         "6 items, with stock worth 48.0, of which 1 item is owed to customers and not ordered"
         in today.text
     )
-    assert {*today.dead["item"]} == {"DEAD", "OLD"}
+    assert {*today.lists.set_index("list").item["dead"]} == {"DEAD", "OLD"}
     few = pd.DataFrame({"item": ["ACTIVE", "GONE"], "stock": [3, 7]})
     today = plan.orders_today(few, date=end + datetime.timedelta(1))
-    stocks = today.stopped.set_index("item")["stock"]
+    lists = today.lists[today.lists.list.isin(ended.values())]
+    stocks = lists.set_index("item")["stock"]
     assert {*stocks.index} == {*ended}
     assert stocks.dropna().to_dict() == {"GONE": 7}
 

@@ -209,11 +209,14 @@ def test_additions_are_shown(offered: dict[str, Standing]) -> None:
     today = OrdersToday(Today(FRIDAY, FRIDAY, items, [], dead, least, False, {}, []))
     added = today.added[["item", "placed", "value", "total"]]
     assert added.values.tolist() == [["near", 10, 20, 65], ["fast", 6, 18, 83]]
-    suppliers = today.suppliers[["supplier", "dead", "short"]]
+    groups = today.groups[today.groups.group == "supplier"]
+    suppliers = groups[["name", "dead", "short"]]
     assert suppliers.values.tolist() == [["ABB", 14, 0], ["Bosch", 0, 38]]
     said = "Bosch: 45.00 is 38.00 short of 83.00; add 10 near, 6 fast\n"
     assert said in today.text
-    assert list(today.dead.periods) == [60]
+    assert today.lists[["list", "item", "periods"]].values.tolist() == [
+        ["dead", "dead", 60]
+    ]
     assert "1 item, with stock worth 14.00" in today.text
     more = OrdersToday(replace(today.today, minimums={"Bosch": Fraction(999)}))
     said = (

@@ -93,12 +93,14 @@ def test_sums_by_pandas(
     assert list(due.weeks) == sorted(due.weeks)
     assert {*unknown.index} == {*plan.decisions.item[-5:]}
     assert {*unknown.code} == {"no stock"}
-    sums, by_class = today.classes.set_index("class"), table.groupby("class")
+    sums = today.groups[today.groups.group == "class"].set_index("name")
+    by_class = table.groupby("class")
     for name, column in (("value", "value"), ("excess", "above"), ("owed", "owed")):
         assert sums[name].to_dict() == pytest.approx(by_class[column].sum().to_dict())
     assert sums.orders.to_dict() == by_class.placed.count().to_dict()
-    assert today.above.excess.sum() == table.excess.sum()
-    assert today.owed.owed.sum() == table.owed.sum()
+    lists = today.lists.set_index("list")
+    assert lists.excess["above"].sum() == table.excess.sum()
+    assert lists.owed["owed"].sum() == table.owed.sum()
     assert f"{len(due)} orders, worth {table.value.sum():,.2f}" in today.text
     reasons = today.left_out.set_index("item").reason
     assert reasons["X-1"] == "no item of the plan has this name"
@@ -120,9 +122,9 @@ def test_placed_orders_are_on_order(
     whole = plan.orders_today(stock, coming, FRIDAY)
     parts = plan.orders_today(stock, before, FRIDAY, placed=since)
     alone = plan.orders_today(stock, date=FRIDAY, placed=coming)
-    for name in ("orders", "above", "owed", "suppliers", "lines", "at_risk"):
+    for name in ("orders", "lists", "groups", "lines", "at_risk"):
         table = whole.tables[name].frame
-        assert len(table) or name == "suppliers"
+        assert len(table)
         for other in (parts, alone):
             pd.testing.assert_frame_equal(other.tables[name].frame, table)
     assert len(whole.tables) == len({*whole.tables})
@@ -201,7 +203,7 @@ def test_dead_stock(tmp_path: Path, code: str) -> None:
     own = today.frame[today.frame.item == "Q-1"]
     assert own.placed.isna().all()
     assert (len(own) == 0) == (code == IDLE)
-    assert list(today.dead.value) == [6 * 1.5]
+    assert today.lists[["list", "value"]].values.tolist() == [["dead", 6 * 1.5]]
 
 
 def test_stock_of_the_masters(
@@ -212,9 +214,10 @@ def test_stock_of_the_masters(
     plan = made_plan(tmp_path / "plan", -4, made_pair(random.Random(3), "Q-1")[1])
     today = plan.orders_today(date="2026-11-27")
     assert today.frame[today.frame.item == "Q-1"].placed.notna().sum() == 1
-    assert today.dead.empty
+    assert not (today.lists.list == "dead").any()
     assert "The plan is old" in today.text
-    assert list(today.suppliers.short) == [10**6 - today.frame.value[0]]
+    suppliers = today.groups[today.groups.group == "supplier"]
+    assert list(suppliers.short) == [10**6 - today.frame.value[0]]
     assert "add none: no other item of it needs" in today.text
     old = replace(today.today, day=FRIDAY)
     ends = [replace(old, end=days(-count)).weeks_old for count in (56, 57, 70)]
@@ -256,7 +259,7 @@ def test_command(
     assert orders.owed[names[3]] == 2
     unread = orders.loc[[names[1], names[4]]]
     assert {*unread.code} == {"unread stock"}
-    assert unread.order.isna().all()
+    assert unread.placed.isna().all()
     table = Path("today/today_orders.csv").read_text("utf-8")
     assert crnplan("today", folder, *words, "--csv", "orders").output == table
     assert state_of(folder) == before

@@ -4,7 +4,6 @@ For a sample of items crnsim counts the stock of the named points beside theory.
 """
 from __future__ import annotations
 
-import contextlib
 import itertools
 import json
 import math
@@ -25,11 +24,11 @@ from ..money import Currency
 from ..plan.answer import CHOSEN, TODAY, Answer
 from ..plan.catalogue import planned_folder
 from ..plan.how import Settings
-from ..read.catalogue_reading import CATALOGUE, Catalogued
+from ..read.catalogue_reading import CATALOGUE
 from ..store.stored import Store
 from ..table import DataTable, Json, Result, aligned
 from ..theory.levels import NEAR
-from ..words import PREMISE, advice, sentence
+from ..words import PREMISE, advised, sentence
 from .budget import Budget, OffCurve, chosen_by, gap_of, with_more_orders
 from .confirmed import confirmed
 from .exchange import Items
@@ -41,7 +40,7 @@ from .pictures import exchange_plot
 if TYPE_CHECKING:
     import pandas as pd
 
-CURVE, POLICIES, LEFT_OUT = "curve.csv", "curve_policies.csv", "curve_left_out.csv"
+CURVE, POLICIES = "curve.csv", "curve_policies.csv"
 
 
 class CurvePoint(NamedTuple):
@@ -56,7 +55,6 @@ class CurvePoint(NamedTuple):
 
 COLUMNS = columns_of("curve", "curve")
 POLICY_COLUMNS = columns_of("curve", "policies")
-LEFT_OUT_COLUMNS = columns_of("curve", "left_out")
 ON_CURVE, SAME_STOCK, SAME_SERVICE, BUDGET = (
     "curve",
     "same stock",
@@ -72,13 +70,7 @@ SAID = {
     BUDGET: "your budget",
 }
 TOGETHER = "chosen together"  # the point of a plan with one price
-KEPT = (
-    "currency",
-    "table",
-    "text",
-    "policy_table",
-    "left_out",
-)  # of a curve by its folder
+KEPT = "currency", "table", "text", "policy_table"  # of a curve by its folder
 DRAWN = "curve"  # the fact with the points, beside the answers of a plan
 MET = "Met at once: the share of demand by value."
 BY_THEORY = (
@@ -166,7 +158,7 @@ class Drawn(Result):
         folder, parts = self.gathered.folder, self.gathered.parts
         first = f"{self.gathered.items.count:,} items are on the curve"
         for name, remark in itertools.islice(parts.left_out(), 1):
-            first += f"; {parts.out:,} are left out, as {name}: {sentence(remark)} ({LEFT_OUT} names all)"
+            first += f"; {parts.out:,} are left out, as {name}: {sentence(remark)} ({POLICIES} names all)"
         lines = [first, "", aligned(self._rows())]
         if parts.without_today:
             lines.append(
@@ -231,7 +223,8 @@ class Drawn(Result):
 
     @property
     def policies(self) -> pd.DataFrame:
-        """Returns the policy of each item, with its figures of a period."""
+        """Returns the policy of each item, with its figures of a period; and the items that are not on the curve, with
+        the reason."""
         return self.policy_table.frame
 
     @property
@@ -246,29 +239,14 @@ class Drawn(Result):
         rows = [*policy_rows(self.gathered, self.choice)]
         return self.gathered.folder.table(POLICY_COLUMNS, rows)
 
-    @cached_property
-    def left_out(self) -> DataTable:
-        """Returns the items that are not on the curve, with the reason and what to do."""
-        rows = []
-        for name, remark in self.gathered.parts.left_out():
-            why = {"reason": sentence(remark), "advice": advice(remark)}
-            rows.append({"item": name, **why})
-        return self.gathered.folder.table(LEFT_OUT_COLUMNS, rows)
-
 
 def policy_rows(gathered: Gathered, choice: Choice) -> Iterator[Mapping[str, object]]:
-    """Yields the policy of each item in a choice with its figures, behind the description and today's s and S."""
-    policies = gathered.items.policies(choice)
-    policy = next(policies, None)
-    with contextlib.closing(
-        Catalogued(gathered.folder.read.path, is_known=True)
-    ) as read:
-        for name, description, levels in read.cells("name", "description", "levels"):
-            if policy and policy.name == name:
-                today = dict(zip("sS", json.loads(levels))) if levels else {}
-                row = {"description": description, "today": today, "chosen": policy}
-                yield row
-                policy = next(policies, None)
+    """Yields the policy of each item in a choice with its figures, and then each item that is not on the curve, with the
+    reason and what to do."""
+    for policy in gathered.items.policies(choice):
+        yield {"chosen": policy}
+    for name, remark in gathered.parts.left_out():
+        yield {"chosen": {"name": name}, "left_out": advised(remark)}
 
 
 def points_of(
@@ -420,8 +398,8 @@ def exchange_curve(
     Parameters
     ----------
     folder : str or Path
-        The folder of a plan. It gets curve.csv with the points, curve_policies.csv with the policies of the budget (without
-        one, of today's service with the least stock), and curve_left_out.csv with the items without a price or a plan.
+        The folder of a plan. It gets curve.csv with the points, and curve_policies.csv with the policies of the budget (without
+        one, of today's service with the least stock) and the items without a price or a plan.
         Candidates are kept there.
     stock_value : float, above 0, optional
         A budget: the value of the mean stock at most, in money.
@@ -469,7 +447,7 @@ def exchange_curve(
     means, on_past = Means(jobs, cluster, shown=progress), None
     with (
         planned_folder(path) as planned,
-        own_folder(path, CATALOGUE, (CURVE, POLICIES, LEFT_OUT)) as own,
+        own_folder(path, CATALOGUE, (CURVE, POLICIES)) as own,
         gather(own, planned, means) as gathered,
     ):
         if correct:
@@ -479,7 +457,6 @@ def exchange_curve(
         for name, lines in (
             (CURVE, drawn.table.lines),
             (POLICIES, drawn.policy_lines),
-            (LEFT_OUT, drawn.left_out.lines),
         ):
             own.write(name, lines)
         keep_curve(

@@ -44,7 +44,7 @@ class Shown(NamedTuple):
     def prepare(self) -> None:
         """Computes what the page has first."""
         self.orders.text
-        self.orders.tables["suppliers"]
+        self.orders.tables["groups"]
         rows_of(self.orders, self.orders.today.lines_of("")[:MOST_LINES])
 
 

@@ -394,7 +394,7 @@ class _Sorted:
         if planned or is_set or standing.is_below or standing.is_due:
             self.standings.append(standing)
         if is_quiet and hand.stock:
-            self.dead.append(Lying(item, hand))
+            self.dead.append(Lying(item, hand, standing.on_order))
 
 
 class Days:

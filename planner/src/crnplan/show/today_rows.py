@@ -1,10 +1,9 @@
 """The rows of the tables of what a plan says on a day, and their cells that are no facts of these."""
 from __future__ import annotations
 
-from collections.abc import Callable, Mapping, Sequence
+from collections.abc import Callable, Iterator, Mapping, Sequence
 from dataclasses import dataclass
-from fractions import Fraction
-from typing import Any
+from typing import Any, NamedTuple
 
 from ..plan.risk import Risk
 from ..plan.standing import Money, Standing
@@ -13,6 +12,8 @@ from ..read.item import Item
 from ..read.observed import Day
 from ..remarks import Remark
 from .catalogue_tables import codes_of, words_of
+
+CLASS, SUPPLIER = "class", "supplier"  # what items are grouped by
 
 
 def supplier_file(place: int) -> str:
@@ -44,26 +45,6 @@ class Row:
         """Returns the number of the order of its supplier."""
         return self.today.number(self.item.supplier)
 
-    @property
-    def placed(self) -> int:
-        """Returns today's order in whole packs; 0 if there is none."""
-        if self.standing.is_due:
-            return self.standing.placed
-        return 0
-
-    @property
-    def excess_worth(self) -> Money:
-        return self.standing.worth(self.standing.above)
-
-    @property
-    def excess_weeks(self) -> float | None:
-        """Returns the weeks of mean demand in which the excess is used."""
-        return self.standing.weeks_of(self.standing.above)
-
-    @property
-    def owed_worth(self) -> Money:
-        return self.standing.worth(self.standing.hand.owed)
-
 
 @dataclass(frozen=True)
 class UnknownRow:
@@ -79,11 +60,43 @@ class UnknownRow:
         return [self.remark]
 
 
+class Listed(NamedTuple):
+    """An item of a list of a day by the name of that: where it stands, or how it lies, and what that is worth."""
+
+    name: str
+    value: Money
+    standing: Standing | None = None
+    lying: Lying | None = None
+    weeks: float | None = None
+
+    @property
+    def of(self) -> Standing | Lying | None:
+        return self.standing or self.lying
+
+    @property
+    def reasons(self) -> Sequence[Remark]:
+        """Returns why it is ordered no longer."""
+        return self.lying.reasons if self.lying else ()
+
+
+def listed(today: Today) -> Iterator[Listed]:
+    """Yields the items of each list: above S, dead, owed, and ordered no longer."""
+    for it in today.above:
+        yield Listed("above", it.excess, it, weeks=it.weeks_of(it.above))
+    for lying in today.dead:
+        yield Listed("dead", lying.value, lying=lying)
+    for it in today.owed:
+        yield Listed("owed", it.worth(it.hand.owed), it)
+    for lying in today.ended:
+        yield Listed(lying.item.past, lying.value, lying=lying)
+
+
 @dataclass(frozen=True)
 class GroupRow:
-    """The items of a class or a supplier on a day."""
+    """The items of a class or a supplier, by its role, on a day."""
 
     today: Today
+    role: str
     group: Group
 
     @property
@@ -97,7 +110,7 @@ class GroupRow:
     @property
     def number(self) -> str:
         """Returns the number of today's order of a supplier; empty if nothing is ordered."""
-        if self.group.due:
+        if self.group.due and self.role == SUPPLIER:
             return self.today.number(self.group.name)
         return ""
 
@@ -109,8 +122,8 @@ class GroupRow:
         return ""
 
 
-Stands = Row | UnknownRow | Addition | Risk
-Reasoned = Row | UnknownRow | Risk | Lying
+Stands = Row | UnknownRow | Listed | Addition | Risk
+Reasoned = Row | UnknownRow | Listed | Risk
 
 
 def point_of(row: Stands) -> int | None:
@@ -122,12 +135,6 @@ def point_of(row: Stands) -> int | None:
 def level_of(row: Stands) -> int | None:
     if row.standing and row.standing.is_planned:
         return row.standing.levels[1]
-    return None
-
-
-def lacking(row: Row | UnknownRow) -> Fraction | None:
-    if row.standing and row.standing.is_planned:
-        return row.standing.to_level
     return None
 
 
@@ -146,10 +153,6 @@ def said(row: Reasoned) -> str:
     return words_of(row.reasons)
 
 
-def overdue_orders(risk: Risk) -> int:
-    return len(risk.standing.overdue)
-
-
 def next_receipt(risk: Risk) -> Day | str:
     return risk.receipt or ""
 
@@ -157,10 +160,8 @@ def next_receipt(risk: Risk) -> Day | str:
 CELLS: Mapping[str, Callable[[Any], Any]] = {
     "s": point_of,
     "S": level_of,
-    "order": lacking,
     "value": placed_worth,
     "code": codes,
     "why": said,
-    "overdue_orders": overdue_orders,
     "next_receipt": next_receipt,
 }

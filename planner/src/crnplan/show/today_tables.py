@@ -1,4 +1,4 @@
-"""The tables of what a plan says on a day (orders, what is above S, what lies dead, what is owed, classes, suppliers,
+"""The tables of what a plan says on a day (orders, what is above S, lies dead or is owed, classes and suppliers,
 additions, what is left out), and what they add up to as a text."""
 from __future__ import annotations
 
@@ -38,7 +38,16 @@ from .catalogue_tables import (
 from ..columns import columns_of
 from .control_tables import CONTROL_COLUMNS, controls_of
 from ..drawing.rendering import rendered
-from .today_rows import CELLS, GroupRow, Row, UnknownRow, supplier_file
+from .today_rows import (
+    CELLS,
+    CLASS,
+    SUPPLIER,
+    GroupRow,
+    Row,
+    UnknownRow,
+    listed,
+    supplier_file,
+)
 
 if TYPE_CHECKING:
     import pandas as pd
@@ -60,20 +69,7 @@ URGENT = [
     "latest",
 ]  # of the text
 SUPPLIER_FILE = re.compile("today_supplier_[0-9]{3,}[.]csv")
-
-
-ON_A_DAY = (
-    "orders",
-    "above",
-    "dead",
-    "stopped",
-    "owed",
-    "classes",
-    "suppliers",
-    "added",
-    "lines",
-    "at_risk",
-)
+ON_A_DAY = "orders", "lists", "groups", "added", "lines", "at_risk"
 # The tables by name, with their columns.
 TABLES = {name: columns_of("show", f"today_{name}", CELLS) for name in ON_A_DAY}
 TABLES |= {"controls": CONTROL_COLUMNS, "left_out": REJECT_COLUMNS}
@@ -148,8 +144,8 @@ class OrdersToday(Result):
     def _rows(self, standings: Iterable[Standing]) -> list[Row]:
         return [Row(self.today, standing) for standing in standings]
 
-    def _groups(self, groups: Iterable[Group]) -> list[GroupRow]:
-        return [GroupRow(self.today, group) for group in groups]
+    def _groups(self, role: str, groups: Iterable[Group]) -> list[GroupRow]:
+        return [GroupRow(self.today, role, group) for group in groups]
 
     @cached_property
     def table(self) -> DataTable:
@@ -217,7 +213,8 @@ class OrdersToday(Result):
     @cached_property
     def sellers(self) -> dict[str, GroupRow]:
         """Returns the suppliers by name, each with what is ordered of it."""
-        return {row.group.name: row for row in self._groups(self.today.suppliers)}
+        rows = self._groups(SUPPLIER, self.today.suppliers)
+        return {row.group.name: row for row in rows}
 
     @property
     def by_supplier(self) -> dict[int, tuple[str, DataTable]]:
@@ -241,12 +238,10 @@ class OrdersToday(Result):
             case "left_out":
                 return rejects_of(today.rejects, self.keys)
         rows: dict[str, Callable[[], Iterable[object]]] = {
-            "above": lambda: self._rows(today.above),
-            "dead": lambda: today.dead,
-            "stopped": lambda: today.ended,
-            "owed": lambda: self._rows(today.owed),
-            "classes": lambda: self._groups(today.classes),
-            "suppliers": lambda: self._groups(today.suppliers),
+            "lists": lambda: listed(today),
+            "groups": lambda: itertools.chain(
+                self._groups(CLASS, today.classes), self.sellers.values()
+            ),
             "added": lambda: itertools.chain.from_iterable(
                 group.additions() for group in today.short.values()
             ),
@@ -268,13 +263,13 @@ class OrdersToday(Result):
         return files
 
     def write(self, folder: Folder, style: str = "en") -> None:
-        """Writes all tables, the order of each supplier in a style, and the text into a folder. The order of a supplier
-        without one is removed.
+        """Writes all tables, the order of each supplier in a style, and the text into a folder. A table that was written
+        there, and is no longer, is removed.
 
         :meta private:
         """
         files = self.files
-        old = [name for name in folder.names if SUPPLIER_FILE.fullmatch(name)]
+        old = [name for name in folder.names if name.endswith(".csv")]
         folder.remove(*(name for name in old if name not in files))
         for name, table in files.items():
             is_order = SUPPLIER_FILE.fullmatch(name)
@@ -300,34 +295,17 @@ class OrdersToday(Result):
         write_orders(Path(path), self)
 
     @property
-    def above(self) -> pd.DataFrame:
-        """Returns the items whose position is above S, those that last longest first."""
-        return self.tables["above"].frame
+    def lists(self) -> pd.DataFrame:
+        """Returns by `list` the items above S, those that last longest first; those with stock that nobody has asked for
+        during the last year of the record; those owed to customers; and those that are ordered no longer.
+        """
+        return self.tables["lists"].frame
 
     @property
-    def dead(self) -> pd.DataFrame:
-        """Returns the items with stock that nobody has asked for during the last year of the record."""
-        return self.tables["dead"].frame
-
-    @property
-    def stopped(self) -> pd.DataFrame:
-        """Returns the items that have stopped, are phased out or not to be ordered, with their stock."""
-        return self.tables["stopped"].frame
-
-    @property
-    def owed(self) -> pd.DataFrame:
-        """Returns the items that are owed to customers."""
-        return self.tables["owed"].frame
-
-    @property
-    def classes(self) -> pd.DataFrame:
-        """Returns what orders, excess, dead stock and items owed come to by class."""
-        return self.tables["classes"].frame
-
-    @property
-    def suppliers(self) -> pd.DataFrame:
-        """Returns the same by supplier, with the least value of an order and what lacks up to it."""
-        return self.tables["suppliers"].frame
+    def groups(self) -> pd.DataFrame:
+        """Returns what orders, excess, dead stock and items owed come to by class, and by supplier, with the least value of
+        its order and what lacks up to it."""
+        return self.tables["groups"].frame
 
     @property
     def added(self) -> pd.DataFrame:
