@@ -34,7 +34,7 @@ from tqdm import tqdm
 
 from crnplan.chances import Floats, in_items
 from crnplan.demand.fitted import Borrowed, FittedLaw
-from crnplan.demand.fitting import fit_demand
+from crnplan.demand.borrowing import fit_demand
 from crnplan.demand.borrowing import law_of
 from crnplan.demand.learning import Prior, learn
 from crnplan.demand.families import predictive_of

@@ -27,7 +27,7 @@ import numpy as np
 import pandas as pd
 
 from crnplan.demand.cut_sales import expected_demands
-from crnplan.demand.fitting import fit_demand
+from crnplan.demand.borrowing import fit_demand
 from planner.studies.fills import scenarios_of, spelt, table_of, theory_of
 from planner.studies.laws import Truth
 from planner.studies.page import markdown

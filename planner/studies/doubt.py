@@ -31,7 +31,7 @@ import numpy as np
 import pandas as pd
 
 from crnplan.chances import Floats
-from crnplan.demand.fitting import fit_demand
+from crnplan.demand.borrowing import fit_demand
 from crnplan.demand.posterior import allowed_laws
 from crnplan.law import Law
 from crnplan.theory.walk import room_for

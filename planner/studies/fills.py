@@ -23,11 +23,12 @@ import click
 import numpy as np
 import pandas as pd
 
-from crnplan.demand.fitting import fit_demand
+from crnplan.demand.borrowing import fit_demand
 from crnplan.demand.posterior import allowed_laws
 from crnplan.law import Law
 from crnplan.policies import Policy
-from crnplan.scenario import Costs, Scenario
+from crnplan.money import Costs
+from crnplan.runs import Scenario
 from crnplan.theory.lattice import theories_of
 from crnplan.chances import Floats
 from crnplan.theory.long_run import Candidate, LongRun

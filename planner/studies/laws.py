@@ -30,7 +30,7 @@ from scipy import stats
 
 from crnplan.chances import Floats
 from crnplan.demand.fitted import FittedLaw
-from crnplan.demand.fitting import fit_demand
+from crnplan.demand.borrowing import fit_demand
 from crnplan.theory.walk import LatticeLaw, power_of, renewal_sequence
 from planner.studies.page import markdown
 

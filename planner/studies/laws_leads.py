@@ -25,7 +25,8 @@ import pandas as pd
 
 from crnplan.demand.fitting import fit_lead
 from crnplan.law import Law
-from crnplan.scenario import Costs, Scenario
+from crnplan.money import Costs
+from crnplan.runs import Scenario
 from crnplan.theory.lattice import theories_of
 from crnplan.theory.long_run import LongRun
 from planner.studies.laws import BACKLOGS, COVERS, DESIGNED

@@ -30,7 +30,8 @@ from crnplan.errors import CrnplanError, Refused
 from crnplan.formats import MOST_ITEMS, MOST_PERIODS
 from crnplan.table import aligned
 from crnplan.policies import Policy
-from crnplan.scenario import Costs, Scenario
+from crnplan.money import Costs
+from crnplan.runs import Scenario
 from crnplan.theory.lattice import shape_of, theories_of, theory_on
 from crnplan.theory.run_effects import start_bias
 from planner.studies.long_run_items import Item, items_of

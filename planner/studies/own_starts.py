@@ -29,7 +29,7 @@ from crnplan.crnsim.program import find_program, run_all
 from crnplan.crnsim.report import joined, parts_of, rows_of
 from crnplan.law import Law
 from crnplan.changing import key_words
-from crnplan.scenario import Scenario
+from crnplan.runs import Scenario
 from crnplan.toml.scenarios import plain_text
 
 Words = npt.NDArray[np.uint64]

@@ -26,7 +26,7 @@ import numpy as np
 import pandas as pd
 
 from crnplan.chances import Floats
-from crnplan.scenario import Scenario
+from crnplan.runs import Scenario
 from crnplan.theory.long_run import Candidate
 from planner.studies.fills import HOLDING, scenario_of, spelt, table_of, theory_of
 from planner.studies.laws import Truth

@@ -19,7 +19,7 @@ from typing import Any
 import click
 import pandas as pd
 
-from crnplan.demand.fitting import fit_demand
+from crnplan.demand.borrowing import fit_demand
 from crnplan.law import Law
 from crnplan.theory.grid import search
 from crnplan.theory.lattice import theories_of

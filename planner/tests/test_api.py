@@ -110,7 +110,7 @@ def test_command(name: str) -> None:
     assert (command.epilog or "").startswith(f"Example: crnplan {name}")
 
 
-PARTS = """crnsim.report decide.long_run decide.verdicts theory.suggestions theory.many_laws
+PARTS = """runs decide.long_run decide.verdicts theory.suggestions theory.many_laws
     demand.posterior demand.borrowing curve.exchange_curve""".split()
 
 

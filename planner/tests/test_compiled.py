@@ -313,7 +313,7 @@ def test_all_is_compiled_beforehand(tmp_path: Path, program: Path) -> None:
         "PYTHONPATH": paths,
     }
     subprocess.run(
-        [sys.executable, "-m", "crnplan.compiled"], env=environment, check=True
+        [sys.executable, "-m", "crnplan.compile_loops"], env=environment, check=True
     )
     words = [sys.executable, "plan.py", str(tmp_path), str(program)]
     ran = subprocess.run(

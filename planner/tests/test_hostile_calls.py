@@ -14,8 +14,9 @@ import pandas as pd
 import pytest
 
 import crnplan as crn
-from crnplan.arguments import KINDS, word_of
+from crnplan.arguments import word_of
 from crnplan.options import within
+from crnplan.read.judging import KINDS
 from planner.tests.test_call_words import FAST, MASTERS, SALES, WEEKS
 from planner.tests.test_options import OF_CALLS
 

@@ -12,7 +12,7 @@ import pytest
 
 from crnplan.errors import Refused
 from crnplan.law import Law
-from crnplan.scenario import Scenario
+from crnplan.runs import Scenario
 
 NAN, INF = float("nan"), float("inf")
 # Tails of .5, .3 and .2 are 65,536, 32,768 and 13,107.2: rounded, their differences are the weights.

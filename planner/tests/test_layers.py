@@ -34,10 +34,10 @@ def module_of(file: Path) -> str:
     return file.relative_to(SOURCE).parts[0].removesuffix(".py")
 
 
-def imported(file: Path) -> Iterator[str]:
-    """Yields the modules of the package that a file imports as it is loaded."""
+def imported(file: Path, text: str = "") -> Iterator[str]:
+    """Yields the modules of the package that a file, or a text in its place, imports: also in functions, and for types."""
     package = ["crnplan", *file.relative_to(SOURCE).parent.parts]
-    for node in ast.parse(file.read_text(encoding="utf-8")).body:
+    for node in ast.walk(ast.parse(text or file.read_text(encoding="utf-8"))):
         if isinstance(node, ast.ImportFrom) and node.level:
             base = [
                 *package[: len(package) - node.level + 1],
@@ -45,6 +45,17 @@ def imported(file: Path) -> Iterator[str]:
             ]
             parts = [it for it in base if it]
             yield from [parts[1]] if len(parts) > 1 else [it.name for it in node.names]
+
+
+def late(text: str) -> list[str]:
+    """Returns the functions of a text that import a module of the package."""
+    return [
+        function.name
+        for function in ast.walk(ast.parse(text))
+        if isinstance(function, ast.FunctionDef)
+        for node in ast.walk(function)
+        if isinstance(node, ast.ImportFrom) and node.level
+    ]
 
 
 def test_table_has_all_modules() -> None:
@@ -56,6 +67,21 @@ def test_imports_only_those_above(file: Path) -> None:
     order = layers()
     above = {*order[: order.index(module_of(file)) + 1], "__version__"}
     assert set(imported(file)) - above == set()
+
+
+def test_late_imports() -> None:
+    """A function imports a module of the package only to start fast, as layers.toml says of its file."""
+    found = {
+        str(file.relative_to(SOURCE)) for file in FILES if late(file.read_text("utf-8"))
+    }
+    assert found == KNOWN["late"].keys()
+
+
+@pytest.mark.parametrize("code", KNOWN["code"]["late"])
+def test_planted_imports(code: str) -> None:
+    """Sees an import in a function, in a method and for types."""
+    assert [*imported(SOURCE / "law.py", code)] == ["plan"]
+    assert late(code) == ([] if "TYPE_CHECKING" in code else ["f"])
 
 
 def made_in(text: str) -> Iterator[str]:

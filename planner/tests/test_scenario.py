@@ -16,12 +16,13 @@ import pytest
 from hypothesis import given, settings, strategies as st
 
 from crnplan import errors, formats
-from crnplan.demand.fitting import fit_demand
+from crnplan.demand.borrowing import fit_demand
 from crnplan.errors import ProgramError, Refused, ScenarioError
 from crnplan.law import Law
 from crnplan.named_policies import read_policies
 from crnplan.policies import Policy, policies_of
-from crnplan.scenario import Costs, Scenario
+from crnplan.money import Costs
+from crnplan.runs import Scenario
 from crnplan.toml.scenarios import faults_of
 from planner.tests.conftest import Command, cases_beside
 from planner.tests.decide.answers import report_of

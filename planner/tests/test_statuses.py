@@ -19,7 +19,7 @@ from unittest.mock import Mock
 import pytest
 
 from crnplan.errors import CrnplanError, Failed, Fault, RefusedFaults
-from crnplan.scenario import Scenario
+from crnplan.runs import Scenario
 from crnplan.store.files import faults_of, own_folder
 from planner.tests.conftest import Command
 from planner.tests.test_folders import CATALOGUE, room

@@ -11,9 +11,9 @@ import pytest
 from scipy import stats
 
 from crnplan.demand.fitted import Diagnostics, FittedLaw
-from crnplan.demand.fitting import fit_demand
+from crnplan.demand.borrowing import fit_demand
 from crnplan.law import Law
-from crnplan.scenario import Scenario
+from crnplan.runs import Scenario
 from crnplan.theory.lattice import theories_of
 from planner.studies import borrowing, dependence, doubt, fills, laws
 from planner.studies.dependence import Case

@@ -21,13 +21,14 @@ if TYPE_CHECKING:
         ScenarioError as ScenarioError,
     )
     from .policies import Policy as Policy
-    from .scenario import Costs as Costs, Scenario as Scenario
+    from .money import Costs as Costs
+    from .runs import Report as Report, Scenario as Scenario
     from .law import Law as Law
-    from .crnsim.report import Report as Report
     from .crnsim.program import find_program as find_program
     from .demand.checks import Checks as Checks, check_history as check_history
     from .demand.fitted import FittedLaw as FittedLaw
-    from .demand.fitting import fit_demand as fit_demand, fit_lead as fit_lead
+    from .demand.borrowing import fit_demand as fit_demand
+    from .demand.fitting import fit_lead as fit_lead
     from .demand.learning import Prior as Prior, learn as learn
     from .decide.long_run import LongRunReport as LongRunReport
     from .crnsim.trajectory import trajectories as trajectories
@@ -56,13 +57,14 @@ _NAMES = {
         "ScenarioError",
     ),
     "policies": ("Policy",),
-    "scenario": ("Costs", "Scenario"),
+    "money": ("Costs",),
+    "runs": ("Report", "Scenario"),
     "law": ("Law",),
-    "crnsim.report": ("Report",),
     "crnsim.program": ("find_program",),
     "demand.checks": ("Checks", "check_history"),
     "demand.fitted": ("FittedLaw",),
-    "demand.fitting": ("fit_demand", "fit_lead"),
+    "demand.borrowing": ("fit_demand",),
+    "demand.fitting": ("fit_lead",),
     "demand.learning": ("Prior", "learn"),
     "decide.long_run": ("LongRunReport",),
     "crnsim.trajectory": ("trajectories",),

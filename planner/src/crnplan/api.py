@@ -6,7 +6,7 @@ from collections.abc import Mapping
 from pathlib import Path
 from typing import Any
 
-from .arguments import judged
+from .read.judging import judged
 from .catalogues import (
     Catalogue,
     Lost,

@@ -13,7 +13,7 @@ from .errors import Refused, argument
 from .money import exact, whole
 from .options import SEEN, Option, option, table_of
 from .toml.documents import shown
-from .vocabulary import UNNAMED, read_argument, several
+from .vocabulary import UNNAMED, several
 
 Call = TypeVar("Call", bound=Callable[..., Any])
 Read = Callable[[Option, Any], Any]
@@ -21,7 +21,7 @@ OWN = ("self", "cls")  # what a method is called on
 MOST_OF_NAME = 255  # bytes of the name of a file, on Linux
 
 
-def _refused(word: Option, value: Any, what: str, advice: str) -> Refused:
+def refused(word: Option, value: Any, what: str, advice: str) -> Refused:
     return Refused(f"{argument(word.name)}: {shown(value)} is {what}", advice)
 
 
@@ -34,97 +34,55 @@ def _whole(word: Option, value: Any) -> int:
 def _number(word: Option, value: Any) -> float:
     number = exact(value)
     if number is None:
-        raise _refused(word, value, "no number", "write it as 12.5")
+        raise refused(word, value, "no number", "write it as 12.5")
     word.check(float(number))
     return float(number)
-
-
-def _share(word: Option, value: Any) -> float:
-    from .read.amounts import share_of
-
-    return float(read_argument(word.name, value, share_of))
 
 
 def _choice(word: Option, value: Any) -> str:
     if not isinstance(value, str):
         choices = ", ".join(word.choices)
-        raise _refused(word, value, f"not one of {choices}", "write one of them")
+        raise refused(word, value, f"not one of {choices}", "write one of them")
     word.check(value)
     return value
 
 
 def _text(word: Option, value: Any) -> str:
     if not isinstance(value, str):
-        raise _refused(word, value, "no text", "write it in quotes")
+        raise refused(word, value, "no text", "write it in quotes")
     return value
 
 
-def _name(word: Option, value: Any) -> str:
-    """Returns a name of an item or a column, as a table has it that is read."""
-    from .read.frames import name_of
-
-    is_text = isinstance(value, str) and not UNNAMED.search(value)
-    if not is_text and (isinstance(value, str) or exact(value) is None):
-        raise _refused(word, value, "no name", "write it as in the table")
-    return name_of(value)
-
-
-def _several(read: Read) -> Read:
+def several_of(read: Read) -> Read:
     """Returns what reads several values, or a single one."""
     return lambda word, value: several(partial(read, word))(value)
 
 
 def _flag(word: Option, value: Any) -> bool:
     if type(value).__name__ not in ("bool", "bool_"):
-        raise _refused(word, value, "neither True nor False", "write one of them")
+        raise refused(word, value, "neither True nor False", "write one of them")
     return bool(value)
 
 
-def _date(word: Option, value: Any) -> Any:
-    from .read.observed import stated_day
-
-    return stated_day(word.name, value)
-
-
-def _path(word: Option, value: Any) -> str | Path:
+def read_path(word: Option, value: Any) -> str | Path:
     text = str(os.fspath(value)) if isinstance(value, (str, os.PathLike)) else ""
     parts = [part.encode(errors="replace") for part in text.split(os.sep)]
     if not text or UNNAMED.search(text) or max(map(len, parts)) > MOST_OF_NAME:
-        raise _refused(word, value, "no path", "name a file or a folder")
+        raise refused(word, value, "no path", "name a file or a folder")
     return value if isinstance(value, str) else Path(value)
-
-
-def _table(word: Option, value: Any) -> Any:
-    """Returns the path of a table, a DataFrame, or what stands for one."""
-    from .read.frames import table_of as frame_of
-
-    if isinstance(value, (str, os.PathLike)):
-        return _path(word, value)
-    return frame_of(word.name, value)
-
-
-def _tables(word: Option, value: Any) -> Any:
-    """Returns a table, or a catalogue that was read."""
-    return value if isinstance(value, word.read) else _table(word, value)
-
-
-def _laws(word: Option, value: Any) -> Any:
-    from .read.stated import laws_frame
-
-    return _table(word, laws_frame(value))
 
 
 def _scheduler(word: Option, value: Any) -> Any:
     if not isinstance(value, str) and not hasattr(value, "scheduler_info"):
         advice = "write its address, or give a Client"
-        raise _refused(word, value, "no Dask scheduler", advice)
+        raise refused(word, value, "no Dask scheduler", advice)
     return value
 
 
 def _of_class(word: Option, value: Any) -> Any:
     kind = word.read.__name__
     if not isinstance(value, word.read):
-        raise _refused(word, value, f"no {kind}", f"give a {kind}")
+        raise refused(word, value, f"no {kind}", f"give a {kind}")
     return value
 
 
@@ -135,12 +93,12 @@ def _document(word: Option, value: Any) -> bytes:
     try:
         return _text(word, value).encode()
     except UnicodeEncodeError:
-        raise _refused(word, value, "no text in UTF-8", "write characters") from None
+        raise refused(word, value, "no text in UTF-8", "write characters") from None
 
 
 def _generator(word: Option, value: Any) -> Any:
     if not hasattr(value, "choice") or not hasattr(value, "bit_generator"):
-        raise _refused(word, value, "no Generator", "give numpy.random.default_rng(1)")
+        raise refused(word, value, "no Generator", "give numpy.random.default_rng(1)")
     return value
 
 
@@ -149,22 +107,15 @@ def _anything(word: Option, value: Any) -> Any:
     return value
 
 
-# What reads the arguments of each kind.
+# What reads the arguments of each kind. Those that stand for tables and their cells are in read/judging.py.
 KINDS: Mapping[str, Read] = {
     "text": _text,
     "choice": _choice,
-    "share": _share,
-    **dict.fromkeys(("path", "folder", "file"), _path),
+    **dict.fromkeys(("path", "folder", "file"), read_path),
     "whole": _whole,
     "number": _number,
     "flag": _flag,
-    "date": _date,
-    "texts": _several(_text),
-    "name": _name,
-    "items": _several(_name),
-    "table": _table,
-    "catalogue": _tables,
-    "laws": _laws,
+    "texts": several_of(_text),
     "scheduler": _scheduler,
     "class": _of_class,
     "document": _document,
@@ -180,9 +131,10 @@ def word_of(name: str, tables: Iterable[str]) -> Option | None:
     return option(f"{table}.{name}") if table else None
 
 
-def judged(*tables: str) -> Callable[[Call], Call]:
+def judged(*tables: str, kinds: Mapping[str, Read] = KINDS) -> Callable[[Call], Call]:
     """Returns a decorator by which each argument of a function is read by its word in the first of some tables of
-    options.toml that has it. None is as by default. Raises Refused for what can't be meant, with the argument's name.
+    options.toml that has it, as its kind says. None is as by default. Raises Refused for what can't be meant, with the
+    argument's name.
     """
 
     def made(function: Call) -> Call:
@@ -205,7 +157,7 @@ def judged(*tables: str) -> Callable[[Call], Call]:
                 elif name not in OWN:
                     word = word_of(name, tables)
                     if word:
-                        given.arguments[name] = KINDS[word.kind](word, value)
+                        given.arguments[name] = kinds[word.kind](word, value)
             return function(*given.args, **given.kwargs)
 
         setattr(called, "__signature__", getattr(function, SEEN, signature))

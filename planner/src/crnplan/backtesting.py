@@ -4,10 +4,10 @@ from __future__ import annotations
 import tempfile
 from dataclasses import dataclass, field
 from pathlib import Path
-from typing import TYPE_CHECKING, Any, ClassVar
+from typing import TYPE_CHECKING, ClassVar
 
 from .api import rules_of, take_tables
-from .arguments import judged
+from .read.judging import judged
 from .catalogues import Catalogue, warn_of_lost
 from .given import COMMON, joined, taken, taking
 from .plan.how import Settings
@@ -16,6 +16,7 @@ from .errors import Refused
 from .store.files import Folder, own_folder
 from .store.clusters import Scheduler
 from .store.means import Means
+from .drawing.pictures import Picture
 from .show.backtest_page import backtest_page, curve_plot, summed_of
 from .show.backtest_tables import (
     BACKTEST,
@@ -36,8 +37,6 @@ from .table import DataTable, Json, Result
 
 if TYPE_CHECKING:
     import pandas as pd
-
-    from .drawing.pictures import Picture
 
 
 @dataclass(frozen=True, eq=False, repr=False)
@@ -95,8 +94,6 @@ class Backtests(Result):
         Refused
             If no item was tested.
         """
-        from .drawing.pictures import Picture
-
         if self.tested.whole is None:
             raise Refused(first_line(None), "test longer records")
         tests = [test for _, test in summed_of(self.tested)]

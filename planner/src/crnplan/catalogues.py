@@ -8,7 +8,7 @@ from dataclasses import dataclass, field
 from pathlib import Path
 from typing import TYPE_CHECKING, Any, cast
 
-from .arguments import judged
+from .read.judging import judged
 from .errors import CrnplanError, Failed, argument
 from .spelling import worded
 from .given import COMMON, joined, taken, taking

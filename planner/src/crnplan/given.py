@@ -6,7 +6,7 @@ from collections.abc import Callable, Collection, Mapping
 from pathlib import Path
 from typing import Any, TypeVar
 
-from .arguments import judged
+from .read.judging import judged
 from .errors import Refused, argument
 from .options import CALL, SEEN
 from .plan.how import Settings

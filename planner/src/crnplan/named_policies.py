@@ -8,7 +8,7 @@ from collections.abc import Iterator
 
 from .errors import Refused
 from .policies import Policy
-from .scenario import Scenario
+from .scenario import ScenarioData
 from .toml.documents import read_bytes, shown
 
 
@@ -21,7 +21,7 @@ def read_policies(word: str) -> list[Policy]:
     if pair:
         return [Policy.of_levels(int(pair[1]), int(pair[2]))]
     if word.endswith(".toml"):
-        return list(Scenario.read(word).policies)
+        return list(ScenarioData.read(word).policies)
     data = read_bytes(word)
     try:
         return [*_policies_of_rows(data.decode("utf-8-sig"), word)]

@@ -8,7 +8,11 @@ from functools import cached_property
 from pathlib import Path
 from typing import TYPE_CHECKING, Any, ClassVar, SupportsIndex
 
-from .arguments import judged
+from .crnsim.periods import Period
+from .crnsim.pictures import trajectories_picture
+from .curve.exchange_curve import Drawn, exchange_curve
+from .drawing.pictures import Picture, savings_picture
+from .read.judging import judged
 from .catalogues import Catalogue
 from .given import taken, taking
 from .read.items import Reading
@@ -27,6 +31,7 @@ from .show.change_tables import change_lines, changes_of
 from .show.calendars import levels_of
 from .show.lateness import lateness_of
 from .show.today_tables import OrdersToday, orders_today
+from .show.workbook import write_workbook
 from .show.item_page import ItemWords, item_page, item_summary, policies_of
 from .plan.catalogue import planned_folder
 from .plan.totals import Totals
@@ -37,16 +42,12 @@ from .read.catalogue_reading import READ
 from .read.frames import name_of
 from .read.opening import Table
 from .remarks import Remark
-from .scenario import Scenario
+from .runs import Scenario
 from .table import DataTable, Json, Result
 from .words import counted
 
 if TYPE_CHECKING:
     import pandas as pd
-
-    from .crnsim.periods import Period
-    from .curve.exchange_curve import Drawn
-    from .drawing.pictures import Picture
 
 
 @dataclass(frozen=True, eq=False, repr=False)
@@ -121,8 +122,6 @@ class PlannedItem(Result):
 
     def plot(self) -> Picture:
         """Draws stock, position and orders of today's and the chosen policy in one run."""
-        from .crnsim.pictures import trajectories_picture
-
         box = self.words.item.box
         policies: list[Policy] = []
         runs: list[list[Period]] = []
@@ -331,8 +330,6 @@ class Plan(Result):
         Drawn
             `frame` has the points, and `policies` the policy of each item for the budget.
         """
-        from .curve.exchange_curve import exchange_curve
-
         drawn = exchange_curve(
             self._folder,
             stock_value=stock_value,
@@ -412,8 +409,6 @@ class Plan(Result):
         Refused
             If no item has a policy today.
         """
-        from .drawing.pictures import savings_picture
-
         with planned_folder(self._folder) as folder:
             savings = {
                 str(row["item"]): row["saving"]
@@ -445,8 +440,6 @@ class Plan(Result):
         Refused
             If the file can't be written, or the orders are those of another plan.
         """
-        from .show.workbook import write_workbook
-
         write_workbook(self._folder, Path(path), orders)
 
     def report(

@@ -9,7 +9,7 @@ from collections.abc import Iterable, Mapping, Sequence
 from dataclasses import dataclass, field
 from fractions import Fraction
 from pathlib import Path
-from typing import TYPE_CHECKING, Any
+from typing import Any, Self
 
 from .arguments import judged
 from . import formats
@@ -25,13 +25,8 @@ from .toml.scenarios import (
 from .errors import Refused
 from .law import Chances, Law, law_of
 from .money import Amount, Costs as Costs, scaled_costs, whole
-from .policies import Policies, Policy, levels_of, policies_of
+from .policies import Policy, levels_of
 from .table import Json
-
-if TYPE_CHECKING:
-    from .crnsim.report import Report
-    from .decide.long_run import LongRunReport
-    from .theory.suggestions import ByTheory, Suggestions
 
 Tree = dict[str, Any]
 NO_POLICY = range(1)  # the number of policies of a scenario that is made without one
@@ -40,29 +35,8 @@ BY_ITS_LAWS = "by this law of demand, and this law of lead times; the history al
 
 
 @dataclass(frozen=True)
-class Scenario:
-    """A scenario of crnsim: what is asked for, what it costs, and which policies are compared. Made by `of` or `read`.
-
-    Attributes
-    ----------
-    demand, lead, returns : Law
-        The demand of a period and what customers give back in it, in items, and lead times in periods. `returns` is None if
-        nothing comes back; then `version` may be 1.
-    costs : Costs
-        In the program's whole numbers, of which `scale` count one unit of the money that the scenario was made from. Figures of
-        all results are in that money; `costs`, `toml` and the text of a report are in the whole numbers.
-    policies : tuple of Policy
-        The first one is the base.
-    initial : int
-        The stock at the start, in items.
-    periods, replications : int
-        How long and how often it is run: 1 to 1,024, and 1 to 256.
-    key : tuple of str
-        The four words that random numbers follow from.
-    version, ring, source, scale, review
-        The version of the format, the size of the ring, the text that it was read from, the scale of its money, and one review
-        in so many periods, for theory alone.
-    """
+class ScenarioData:
+    """What is asked for, what it costs, and which policies are compared: see `Scenario`, which can also be run."""
 
     version: int
     key: tuple[str, ...]
@@ -85,7 +59,7 @@ class Scenario:
     has_initial: bool = field(default=True, compare=False, repr=False)
 
     @classmethod
-    def of_tree(cls, tree: Mapping[str, object], source: str | None = None) -> Scenario:
+    def of_tree(cls, tree: Mapping[str, object], source: str | None = None) -> Self:
         """Makes a scenario from a tree as tomllib gives it, which is known to have no fault.
 
         :meta private:
@@ -121,7 +95,7 @@ class Scenario:
 
     @classmethod
     @judged("call")
-    def read(cls, path: str | Path) -> Scenario:
+    def read(cls, path: str | Path) -> Self:
         """Reads and checks a TOML file.
 
         Parameters
@@ -145,7 +119,7 @@ class Scenario:
 
     @classmethod
     @judged("text")
-    def parse(cls, data: bytes | str, name: str = "") -> Scenario:
+    def parse(cls, data: bytes | str, name: str = "") -> Self:
         """Reads and checks a text. Raises as `read` does.
 
         Parameters
@@ -178,7 +152,7 @@ class Scenario:
         periods: int = 104,
         replications: int = 64,
         key: str | Sequence[str] = "crnsim",
-    ) -> Scenario:
+    ) -> Self:
         """Makes a scenario from laws, tables, mappings or observed whole numbers.
 
         Parameters
@@ -257,7 +231,7 @@ class Scenario:
         periods: int,
         replications: int,
         key: str | Sequence[str],
-    ) -> Scenario:
+    ) -> Self:
         """Makes a scenario without a check: see `of`. Without levels of today it has no policy.
 
         :meta private:
@@ -278,7 +252,7 @@ class Scenario:
             returns and returns.table,
         )
 
-    def changed(self, **changes: object) -> Scenario:
+    def changed(self, **changes: object) -> Self:
         """Returns the scenario with changed fields, checked.
 
         Parameters
@@ -318,11 +292,11 @@ class Scenario:
             tree["version"] = formats.version_with(tree)
         is_bare = not self.policies and "policies" not in changes
         check_tree(tree, NO_POLICY if is_bare else ())
-        made = Scenario.of_tree(tree, self.source)
+        made = self.of_tree(tree, self.source)
         has_initial = self.has_initial or "initial" in changes
         return dataclasses.replace(made, scale=scale, has_initial=has_initial).started()
 
-    def with_policies(self, policies: Iterable[Policy]) -> Scenario:
+    def with_policies(self, policies: Iterable[Policy]) -> Self:
         """Returns the scenario with these policies in place of its own, unchecked.
 
         :meta private:
@@ -337,15 +311,6 @@ class Scenario:
             self.scale != 1
         ) + plain_text(self.tree)
 
-    def suggest(self) -> Suggestions:
-        """Returns suggested policies with exact long-run figures, today's first: policy, s, S (items), cost (money a
-        period, without `unit`), fill (the share of demand met at once), short (the share of periods that end with items
-        owed), stock (items), orders (a period), and the reasons for each. Raises NoTheory.
-        """
-        from .theory.suggestions import suggestions_of
-
-        return suggestions_of(self)
-
     def money(self, amount: float) -> float:
         """Returns an amount of the program's whole numbers in the money that the scenario was made from.
 
@@ -353,18 +318,7 @@ class Scenario:
         """
         return amount if self.scale == 1 else amount / float(self.scale)
 
-    def _with_base(self, policies: Policies) -> Scenario:
-        """Returns the scenario with its first policy, if it has one, and then these, each pair of levels once unless it is
-        named; and with the stock at the start."""
-        made = self.with_policies([*self.policies[:1], *policies_of(policies)])
-        base = made.base
-        unnamed = Policy.of_levels(base.s, base.S)
-        others = (
-            policy for policy in made.policies[1:] if policy not in (base, unnamed)
-        )
-        return made.with_policies(dict.fromkeys([base, *others])).started()
-
-    def started(self) -> Scenario:
+    def started(self) -> Self:
         """Returns the scenario with a stock at the start: halfway between s and S of its base, if none is stated.
 
         :meta private:
@@ -380,126 +334,3 @@ class Scenario:
         if not self.policies:
             raise Refused("the scenario has no policy", "give policies, or `today`")
         return self.policies[0]
-
-    def theory(self, policies: Policies | None = None) -> ByTheory:
-        """Returns the figures of any number of policies in the long run, by theory. Nothing is run.
-
-        Parameters
-        ----------
-        policies : Policies, optional
-            As `run` takes them, of which a base is none; by default those of the scenario.
-
-        Returns
-        -------
-        ByTheory
-            `frame` has for each policy s, S (items), cost (money a period, without `unit`), fill (the share of demand met at
-            once), short (the share of periods that end with items owed), stock (items) and orders (a period).
-
-        Raises
-        ------
-        Refused
-            For what is no policy, or if there is none.
-        NoTheory
-            If there is no long run, or if the numbers of the scenario are too far apart.
-
-        Examples
-        --------
-        >>> scenario.theory([(6, 25), (8, 30)]).frame["cost"].round(2).to_list()
-        [22.22, 20.74]
-        """
-        from .theory.suggestions import by_theory
-
-        some = self.policies if policies is None else policies_of(policies)
-        chosen = self.with_policies(dict.fromkeys(some))
-        return by_theory(chosen, [chosen.base, *chosen.policies[1:]])
-
-    @judged("call", "common")
-    def run(
-        self, policies: Policies | None = None, *, program: str | Path | None = None
-    ) -> Report:
-        """Runs crnsim on any number of policies and returns the exact report.
-
-        Parameters
-        ----------
-        policies : Policies, optional
-            Those that are compared with the base, the scenario's first policy; by default the scenario's own. They are Policy
-            objects, pairs (s, S), a mapping of names to pairs, or a table with the columns s and S, and `policy` as a column or
-            its index. More than 16 go in several runs with the base in each.
-        program : str or Path, optional
-            The path of crnsim: see `find_program`.
-
-        Returns
-        -------
-        Report
-            The base first.
-
-        Raises
-        ------
-        Refused
-            For what is no policy.
-        ScenarioError
-            With all faults.
-        ProgramError
-            If a run fails.
-
-        Examples
-        --------
-        >>> report = scenario.run({"lower": (6, 25)})
-        >>> report.frame[["s", "S", "total"]].loc["lower"].to_list()
-        [6, 25, 147032]
-        """
-        from .crnsim.report import report_of
-
-        return report_of(
-            self if policies is None else self._with_base(policies), program
-        )
-
-    @judged("run", "call", "common")
-    def long_run(
-        self,
-        policies: Policies | None = None,
-        *,
-        keys: int = 48,
-        program: str | Path | None = None,
-    ) -> LongRunReport:
-        """Runs crnsim on any number of policies, and takes what the start adds to their costs out, by theory.
-
-        All policies start with the mean position of the base. The stock, the periods and the replications of the scenario play no
-        part, and `unit` is left out.
-
-        Parameters
-        ----------
-        policies : Policies, optional
-            Those that are compared with the base: see `run`.
-        keys : int, default 48
-            The replications of 1,024 periods, from 2 to 256.
-        program : str or Path, optional
-            The path of crnsim: see `find_program`.
-
-        Returns
-        -------
-        LongRunReport
-            The costs of a period in the long run.
-
-        Raises
-        ------
-        Refused
-            For what is no policy, or another number of keys.
-        ScenarioError
-            With all faults.
-        NoTheory
-            If there is no long run, or if the numbers of the scenario are too far apart.
-        ProgramError
-            If a run fails.
-
-        Examples
-        --------
-        >>> report = scenario.long_run({"lower": (6, 25)}, keys=8)
-        >>> list(report.frame.index)
-        ['today', 'lower']
-        """
-        from .decide.long_run import long_run_of
-
-        return long_run_of(
-            self if policies is None else self._with_base(policies), keys, program
-        )

@@ -2,7 +2,6 @@
 page of formats follow from that."""
 from __future__ import annotations
 
-import contextlib
 import csv
 import html
 import io

@@ -11,7 +11,7 @@ import numpy as np
 import pandas as pd
 import pytest
 
-from crnplan.demand.fitting import fit_demand
+from crnplan.demand.borrowing import fit_demand
 from crnplan.plan.backtest.sums import HOLDS, TIME, UNSURE
 from planner.studies import (
     broken,

@@ -12,7 +12,7 @@ from scipy import stats
 
 from crnplan.catalogues import read_catalogue
 from crnplan.read.catalogue_reading import READ
-from crnplan.scenario import Costs
+from crnplan.money import Costs
 from crnplan.store.files import MARKER
 from crnplan.theory.lattice import theories_of
 from planner.bench import page, usage, whole

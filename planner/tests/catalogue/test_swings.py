@@ -37,7 +37,7 @@ from crnplan.plan.swings import (
 )
 from crnplan.plan.totals import Totals
 from crnplan.policies import Policy
-from crnplan.scenario import Scenario
+from crnplan.runs import Scenario
 from planner.tests.show.made_catalogue import Pair, made_pair
 from planner.tests.show.page_reader import Page
 from planner.tests.plan.items import alone, item_of

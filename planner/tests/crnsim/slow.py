@@ -8,7 +8,8 @@ from hypothesis import strategies as st
 
 from crnplan.law import Law
 from crnplan.policies import Policy
-from crnplan.scenario import Costs, Scenario
+from crnplan.money import Costs
+from crnplan.runs import Scenario
 from tests.program import oracle
 
 Draw = tuple[int, int, int]  # demand, lead time, returns

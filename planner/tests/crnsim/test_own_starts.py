@@ -11,12 +11,12 @@ from pathlib import Path
 import numpy as np
 import pytest
 
-from crnplan.crnsim.report import report_of
 from crnplan.decide.long_run import long_run_of
 from crnplan.errors import ProgramError, Refused
 from crnplan.law import Law
 from crnplan.policies import Policy
-from crnplan.scenario import Costs, Scenario
+from crnplan.money import Costs
+from crnplan.runs import Scenario
 from planner.studies import own_starts
 from planner.studies.own_starts import (
     KEYS,
@@ -165,7 +165,10 @@ def test_more_policies_than_a_run_takes(program: Path) -> None:
 
 @pytest.mark.parametrize(
     "run",
-    [report_of, lambda scenario, program: long_run_of(scenario, 2, program)],
+    [
+        lambda scenario, program: scenario.run(program=program),
+        lambda scenario, program: long_run_of(scenario, 2, program),
+    ],
     ids=["report", "long run"],
 )
 def test_a_program_whose_base_differs(

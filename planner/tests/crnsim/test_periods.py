@@ -11,8 +11,7 @@ import pytest
 from hypothesis import given, settings, strategies as st
 
 from crnplan.crnsim.periods import Past, Rates, periods_of
-from crnplan.crnsim.report import report_of
-from crnplan.scenario import Scenario
+from crnplan.runs import Scenario
 from planner.tests.crnsim.slow import scenarios
 from tests.program import oracle
 
@@ -50,7 +49,7 @@ def totals(scenario: Scenario, box: int = 1) -> list[Any]:
 @settings(max_examples=150)
 def test_total_is_that_of_crnsim(program: Path, scenario: Scenario, box: int) -> None:
     """The totals are those of crnsim to the unit, in boxes too."""
-    report = report_of(scenario, str(program))
+    report = scenario.run(program=str(program))
     assert totals(scenario, box) == [row.total for row in report.rows]
 
 

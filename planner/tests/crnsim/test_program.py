@@ -23,10 +23,11 @@ from crnplan.crnsim.program import (
     run_all,
     run_program,
 )
-from crnplan.crnsim.report import Report, Row, counting, csv_of, pooled, read_rows
+from crnplan.crnsim.report import Row, counting, csv_of, pooled, read_rows
+from crnplan.runs import Report
 from crnplan.errors import ProgramError, Refused
 from crnplan.formats import COSTS
-from crnplan.scenario import Scenario
+from crnplan.runs import Scenario
 from planner.tests.conftest import Command, cases_beside, script
 from planner.tests.decide.answers import changed, rows_of_costs
 

@@ -8,7 +8,7 @@ from hypothesis import given, settings
 
 from crnplan.crnsim.trajectory import trajectories
 from crnplan.errors import ProgramError, Refused
-from crnplan.scenario import Scenario
+from crnplan.runs import Scenario
 from planner.tests.conftest import script
 from planner.tests.crnsim.slow import History, draws_of, scenarios, simulate
 

@@ -28,7 +28,7 @@ from crnplan.decide.verdicts import (
     with_intervals,
 )
 from crnplan.errors import Refused
-from crnplan.scenario import Scenario
+from crnplan.runs import Scenario
 from crnplan.theory.run_effects import end_effects
 from planner.tests.conftest import Command, script
 from planner.tests.decide.answers import changed, priced, report_of, rows_of_costs

@@ -17,7 +17,8 @@ from crnplan.decide.verdicts import Compared, Decision
 from crnplan.law import Law
 from crnplan.remarks import Remark
 from crnplan.policies import Policy
-from crnplan.scenario import Costs, Scenario
+from crnplan.money import Costs
+from crnplan.runs import Scenario
 from crnplan.theory.lattice import NoTheory
 from crnplan.words import sentence
 from planner.studies.long_run import (

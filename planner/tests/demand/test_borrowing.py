@@ -15,7 +15,8 @@ from crnplan.chances import Floats
 from crnplan.demand import grid
 from crnplan.demand.borrowing import Posterior, borrowed_laws, law_of
 from crnplan.demand.fitted import Borrowed, FittedLaw
-from crnplan.demand.fitting import fit_demand, share_of
+from crnplan.demand.borrowing import fit_demand
+from crnplan.demand.fitting import share_of
 from crnplan.demand.learning import Prior, learn
 from crnplan.demand.posterior import allowed_laws
 from crnplan.demand.sample import Sample

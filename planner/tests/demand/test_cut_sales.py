@@ -12,7 +12,7 @@ from scipy import optimize, stats
 
 from crnplan.demand.cut_sales import expected_demands, fit_of, spread, stratified
 from crnplan.demand.families import FAMILIES
-from crnplan.demand.fitting import fit_demand
+from crnplan.demand.borrowing import fit_demand
 from crnplan.demand.sample import Sample
 from crnplan.plan.choice import allowed_by
 from crnplan.plan.one import remarks_of_past

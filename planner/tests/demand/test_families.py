@@ -14,7 +14,7 @@ from crnplan.chances import DEMANDS, Floats, scaled
 from crnplan.demand import count_laws, families
 from crnplan.demand.count_laws import beta_negative_binomial, greatest_mean, root_of
 from crnplan.demand.families import cells_of, fits_of, parts_of, predictive_of
-from crnplan.demand.fitting import fit_demand
+from crnplan.demand.borrowing import fit_demand
 from crnplan.demand.posterior import allowed_laws
 from crnplan.demand.sample import Sample
 from planner.tests.conftest import leave_as_written

@@ -17,7 +17,8 @@ from crnplan.chances import in_items
 from crnplan.demand import fitting, posterior
 from crnplan.demand.families import FAMILIES, METHODS, fits_of, predictive_of
 from crnplan.demand.fitted import Borrowed, Diagnostics, FittedLaw, fit_words
-from crnplan.demand.fitting import cap_of, fit_demand, fit_lead, seen_share, share_of
+from crnplan.demand.borrowing import fit_demand
+from crnplan.demand.fitting import cap_of, fit_lead, seen_share, share_of
 from crnplan.demand.posterior import allowed_laws
 from crnplan.demand.sample import Sample, Shares
 from crnplan.errors import Refused

@@ -283,9 +283,9 @@ def test_a_run_without_rare_events_is_no_fault(
     program: Path, monkeypatch: pytest.MonkeyPatch
 ) -> None:
     """A run that meets none of a few dear shortages is far from theory by its own spread, and no fault."""
-    seen, honest = list[Any](), checked_run.report_of
+    seen, honest = list[Any](), checked_run.Sample
     monkeypatch.setattr(
-        checked_run, "report_of", lambda *words: seen.append(words) or honest(*words)
+        checked_run, "Sample", lambda *words: seen.append(words) or honest(*words)
     )
     rare = {
         "counts": (*[1, 0, 1, 2] * 150, 60),

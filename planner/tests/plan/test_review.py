@@ -13,7 +13,6 @@ import pytest
 
 import crnplan as crn
 from crnplan.crnsim.periods import Past, periods_of
-from crnplan.crnsim.report import report_of
 from crnplan.plan.answer import THEORY
 from crnplan.plan.backtest.methods import Walk, Walked
 from crnplan.plan.backtest.smoothing import smoothed_levels
@@ -115,7 +114,7 @@ def test_what_is_said_of_an_answer(program: Path) -> None:
     assert plan_one(rough, str(program)).source == THEORY
     scenario = asked(4).scenario()
     with pytest.raises(crn.Refused, match="crnsim reviews in each period"):
-        report_of(scenario, str(program))
+        scenario.run(program=str(program))
 
 
 def test_one_review_in_each_period_changes_nothing(program: Path) -> None:

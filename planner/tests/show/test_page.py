@@ -13,7 +13,7 @@ import pytest
 from hypothesis import example, given, strategies as st
 
 from crnplan.curve.parts import Point
-from crnplan.demand.fitting import fit_demand
+from crnplan.demand.borrowing import fit_demand
 from crnplan.read.item import Item
 from crnplan.curve.pictures import curve_ends
 from crnplan.show.item_plots import history_plot

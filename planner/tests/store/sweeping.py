@@ -13,7 +13,7 @@ from crnplan.crnsim.program import program_for, run_program
 from crnplan.errors import CrnplanError
 from crnplan.spelling import spelt, worded
 from crnplan.policies import Policy
-from crnplan.scenario import Scenario
+from crnplan.runs import Scenario
 from crnplan.store.digests import digest_of
 from crnplan.store.files import own_folder
 from crnplan.store.means import Means

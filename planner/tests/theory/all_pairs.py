@@ -7,7 +7,7 @@ from dataclasses import replace
 import numpy as np
 import pytest
 
-from crnplan.scenario import Scenario
+from crnplan.runs import Scenario
 from crnplan.theory.feasible import Feasible
 from crnplan.theory.lattice import lattice_of, shape_of, theory_on
 from crnplan.theory.long_run import Candidate, LongRun

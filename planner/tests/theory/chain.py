@@ -13,7 +13,7 @@ import scipy.sparse
 
 from crnplan.law import Law
 from crnplan.policies import Policy
-from crnplan.scenario import Scenario
+from crnplan.runs import Scenario
 
 State = tuple[int, ...]  # the stock, and what arrives in the next periods
 ROUNDS = 20_000

@@ -14,7 +14,7 @@ from typing import NamedTuple
 import numpy as np
 
 from crnplan.law import Law
-from crnplan.scenario import Scenario
+from crnplan.runs import Scenario
 from planner.tests.demand.made import chances_of
 
 LEAST_CHANCE = 1e-12

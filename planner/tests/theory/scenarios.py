@@ -8,7 +8,8 @@ from hypothesis import strategies as st
 
 from crnplan.chances import Floats
 from crnplan.law import Law
-from crnplan.scenario import Costs, Scenario
+from crnplan.money import Costs
+from crnplan.runs import Scenario
 from crnplan.theory.lattice import theories_of
 from crnplan.theory.long_run import LongRun
 

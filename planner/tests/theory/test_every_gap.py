@@ -10,7 +10,8 @@ import numpy as np
 import pytest
 
 from crnplan.chances import Floats
-from crnplan.scenario import Costs, Scenario
+from crnplan.money import Costs
+from crnplan.runs import Scenario
 from crnplan.theory import every_gap, points
 from crnplan.theory.every_gap import GAIN, best_policies
 from crnplan.theory.feasible import ALL, Feasible

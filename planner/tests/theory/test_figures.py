@@ -10,7 +10,8 @@ from hypothesis import given, settings, strategies as st
 from scipy import stats
 
 from crnplan.policies import Policy
-from crnplan.scenario import Costs, Scenario
+from crnplan.money import Costs
+from crnplan.runs import Scenario
 from crnplan.theory.grid import gap_grid
 from crnplan.theory.lattice import NoTheory, shape_of, theories_of, theory_on
 from crnplan.theory.long_run import FEW, LongRun

@@ -6,7 +6,7 @@ import math
 import numpy as np
 import pytest
 
-from crnplan.scenario import Costs
+from crnplan.money import Costs
 from crnplan.theory import levels, long_run
 from crnplan.theory.feasible import ALL, Feasible
 from crnplan.theory.lattice import shape_of, theory_on

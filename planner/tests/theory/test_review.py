@@ -9,7 +9,8 @@ import numpy as np
 import pytest
 from hypothesis import given, settings, strategies as st
 
-from crnplan.scenario import Costs, Scenario
+from crnplan.money import Costs
+from crnplan.runs import Scenario
 from crnplan.theory.every_gap import best_policies
 from crnplan.theory.lattice import shape_of, theory_on
 from planner.tests.theory.chain import by_chain

@@ -11,7 +11,8 @@ import pytest
 from hypothesis import example, given, settings, strategies as st
 
 from crnplan.policies import Policy
-from crnplan.scenario import Costs, Scenario
+from crnplan.money import Costs
+from crnplan.runs import Scenario
 from crnplan.theory import reviews, run_effects
 from crnplan.theory.lattice import NoTheory, theories_of
 from crnplan.theory.run_effects import Runs, end_effects, start_bias, theory_of

@@ -8,7 +8,8 @@ import numpy as np
 import pytest
 
 from crnplan.policies import Policy
-from crnplan.scenario import Costs, Scenario
+from crnplan.money import Costs
+from crnplan.runs import Scenario
 from crnplan.theory import feasible as bounds
 from crnplan.theory.feasible import ALL, Feasible
 from crnplan.theory.grid import search

@@ -4,7 +4,7 @@ from __future__ import annotations
 import numpy as np
 import pytest
 
-from crnplan.scenario import Costs
+from crnplan.money import Costs
 from crnplan.theory import shortfalls
 from crnplan.theory.lattice import shape_of, theory_on
 from crnplan.theory.shortfalls import FAR

@@ -10,7 +10,8 @@ from hypothesis import given, settings, strategies as st
 
 from crnplan.crnsim.program import run_program
 from crnplan.policies import Policy
-from crnplan.scenario import Costs, Scenario
+from crnplan.money import Costs
+from crnplan.runs import Scenario
 from crnplan.theory.suggestions import Depths, Suggestions, suggestions_of
 from planner.tests.theory.long_run_costs import best_of_all, cost_of, shortfall_of
 from planner.tests.theory.scenarios import Weights, large, scenario_of

@@ -12,8 +12,8 @@ import click
 from click.core import ParameterSource
 
 import crnplan as crn
-from ..arguments import KINDS
 from ..options import Option
+from ..read.judging import KINDS
 from ..table import Result
 from ..vocabulary import FLAG, PAIRS, TEXTS, Word
 from . import COMMANDS, options_of

@@ -23,23 +23,17 @@ from collections.abc import Iterable, Sequence
 from dataclasses import dataclass
 from fractions import Fraction
 from pathlib import Path
-from typing import TYPE_CHECKING, Any
+from typing import Any
 
 from .. import formats
-from ..arguments import judged
 from ..columns import columns_of
 from ..toml.documents import shown
 from ..toml.scenarios import MANY, check_tree, name_faults, plain_text
 from ..errors import Fault, ProgramError, Refused, argument
 from ..policies import Policy
-from ..scenario import Costs, Scenario
-from ..table import DataTable, Json, Result
+from ..scenario import Costs, ScenarioData
+from ..table import DataTable
 from .program import find_program, run_all
-
-if TYPE_CHECKING:
-    import pandas as pd
-
-    from ..decide.verdicts import Decision
 
 HEADER = list(formats.COLUMNS)
 WHOLE = re.compile("-?[0-9]{1,40}")
@@ -146,7 +140,7 @@ def read_rows(text: str, place: str = "") -> list[Row]:
     return rows
 
 
-def rows_of(scenario: Scenario, text: str, program: str | Path) -> list[Row]:
+def rows_of(scenario: ScenarioData, text: str, program: str | Path) -> list[Row]:
     """Returns the rows of the report on a scenario, in the money that it was made from. Raises ProgramError if the
     program's output is no such report."""
     try:
@@ -198,13 +192,13 @@ def pooled(
     return rows
 
 
-def counting(scenario: Scenario, cost: str) -> Scenario:
+def counting(scenario: ScenarioData, cost: str) -> ScenarioData:
     """Returns a scenario with one cost at 1 and the others at 0."""
     costs = dataclasses.replace(NO_COSTS, **{cost: 1})
     return dataclasses.replace(scenario, costs=costs, scale=Fraction(1))
 
 
-def parts_of(scenario: Scenario) -> list[Scenario]:
+def parts_of(scenario: ScenarioData) -> list[ScenarioData]:
     """Returns a scenario for each run of any number of policies: at most 16 in a run, with the base in each."""
     base, *others = scenario.policies
     most = formats.POLICIES[1] - 1
@@ -225,61 +219,10 @@ def joined(reports: Sequence[Sequence[Row]], program: str | Path) -> list[Row]:
     return [base, *(row for rows in reports for row in rows[1:])]
 
 
-@dataclass(frozen=True, eq=False, repr=False)
-class Report(Result):
-    """What crnsim reports of a scenario: exact rows, the base first, in the money that the scenario was made from."""
-
-    rows: tuple[Row, ...]
-    scenario: Scenario
-
-    @property
-    def text(self) -> str:
-        """Returns the report as the program writes it: in whole numbers, as the `costs` of the scenario."""
-        return csv_of(self.rows, self.scenario.scale)
-
-    @property
-    def table(self) -> DataTable:
-        """Returns the rows, indexed by `policy`: whole numbers, fractions, or None if there is no figure."""
-        columns = COLUMNS if self.scenario.scale == 1 else MONEY_COLUMNS
-        return DataTable.of(columns, self.rows, index="policy")
-
-    @property
-    def tree(self) -> dict[str, Json]:
-        """Returns the rows as plain data: fractions as texts, None if there is no figure."""
-        return {"policies": self.table.records}
-
-    def floats(self) -> pd.DataFrame:
-        """Returns the frame with rounded floats in place of fractions, and nan in place of None."""
-        names = [*formats.FRACTIONS]
-        names += [it.name for it in self.table.columns if it.kind == "exact"]
-        return self.frame.astype(dict.fromkeys(names, float))
-
-    @judged("call")
-    def decide(self, level: float = 0.95) -> Decision:
-        """Returns all policies by rank, the cheapest first, with paired-t intervals and verdicts.
-
-        Parameters
-        ----------
-        level : float, above 0 and below 1, default 0.95
-            The joint level of the intervals.
-
-        Returns
-        -------
-        Decision
-            `frame` has a row for each policy.
-
-        Examples
-        --------
-        >>> scenario.run([(4, 25)]).decide().frame["verdict"].to_list()
-        ['base', 'worse']
-        """
-        from ..decide.verdicts import decided
-
-        return decided(self.rows, self.scenario.replications, level)
-
-
-def report_of(scenario: Scenario, program: str | Path | None = None) -> Report:
-    """Runs a scenario, whose first policy is the base, on any number of policies.
+def rows_of_run(
+    scenario: ScenarioData, program: str | Path | None = None
+) -> tuple[Row, ...]:
+    """Runs a scenario, whose first policy is the base, on any number of policies, and returns the rows of all.
 
     Raises ScenarioError with all faults, Refused without a review in each period, and ProgramError.
     """
@@ -288,7 +231,5 @@ def report_of(scenario: Scenario, program: str | Path | None = None) -> Report:
         raise Refused("crnsim reviews in each period, and this scenario does not")
     found, parts = find_program(program), parts_of(scenario)
     texts = run_all(found, [(plain_text(part.tree),) for part in parts])
-    rows = joined(
-        [rows_of(part, text, found) for part, text in zip(parts, texts)], found
-    )
-    return Report(tuple(rows), scenario)
+    rows = [rows_of(part, text, found) for part, text in zip(parts, texts)]
+    return tuple(joined(rows, found))

@@ -20,13 +20,12 @@ from ..columns import columns_of
 from ..drawing.pictures import Picture
 from ..errors import ProgramError, Refused, argument
 from ..law import Law
-from ..policies import Policy
-from ..scenario import Scenario
+from ..scenario import ScenarioData
 from ..table import DataTable, Result
 from .periods import Past, Period, Rates, periods_of
 from .program import find_program, run_all
 from .pictures import trajectories_picture
-from .report import report_of
+from .report import rows_of_run
 
 JOBS = 8  # runs at a time: each is short, so that starting it takes most of its time
 PERIODS_OF_BLOCK = 4
@@ -63,7 +62,7 @@ class Trajectories(Result, Sequence[list[Period]]):
         For each of its policies its periods.
     """
 
-    scenario: Scenario
+    scenario: ScenarioData
     runs: list[list[Period]]
 
     @overload
@@ -112,7 +111,7 @@ def drawn(law: Law | None, words: Sequence[int]) -> list[int]:
     return values
 
 
-def draws_of(scenario: Scenario, periods: int, program: Path) -> Past:
+def draws_of(scenario: ScenarioData, periods: int, program: Path) -> Past:
     """Returns what the first periods of replication 0 draw. Raises ProgramError."""
     blocks = range(-(-periods // PERIODS_OF_BLOCK))
     streams: list[list[int]] = [[] for _ in formats.DRAWS]
@@ -137,7 +136,7 @@ def draws_of(scenario: Scenario, periods: int, program: Path) -> Past:
 
 @judged("call", "common")
 def trajectories(
-    scenario: Scenario, periods: int, *, program: str | Path | None = None
+    scenario: ScenarioData, periods: int, *, program: str | Path | None = None
 ) -> Trajectories:
     """Returns the first periods of each policy of a scenario in replication 0.
 
@@ -180,7 +179,7 @@ def trajectories(
             f"{argument('periods', str(periods))}: the scenario has 1 to {scenario.periods} periods"
         )
     past = draws_of(scenario, periods, path)
-    report = report_of(
+    rows = rows_of_run(
         replace(
             scenario, periods=periods, replications=1, source=None, scale=Fraction(1)
         ),
@@ -188,7 +187,7 @@ def trajectories(
     )
     rates = Rates(*astuple(scenario.costs))
     shown = list[list[Period]]()
-    for policy, row in zip(scenario.policies, report.rows, strict=True):
+    for policy, row in zip(scenario.policies, rows, strict=True):
         run = periods_of(past, [(policy.s, policy.S)] * periods, scenario.initial)
         if sum(period.cost(rates) for period in run) != row.total:
             raise ProgramError(

@@ -13,7 +13,7 @@ from functools import cached_property
 from pathlib import Path
 from typing import TYPE_CHECKING, Any, NamedTuple
 
-from ..arguments import judged
+from ..read.judging import judged
 from ..columns import columns_of
 from ..drawing.pictures import Picture
 from ..drawing.rendering import Money

@@ -16,13 +16,13 @@ from functools import cached_property
 from pathlib import Path
 
 from .. import formats
-from ..arguments import judged
+from ..read.judging import judged
 from ..columns import columns_of
-from ..crnsim.report import Row, report_of
+from ..crnsim.report import Row, rows_of_run
 from ..errors import Refused, argument
 from ..remarks import Remark, Value
 from ..policies import Policy
-from ..scenario import Scenario
+from ..scenario import ScenarioData
 from ..table import DataTable, Result, names_of
 from ..theory.lattice import NoTheory
 from ..theory.long_run import LongRun
@@ -57,7 +57,7 @@ class LongRunReport(Result):
     The `rows` are exact, of so many `replications`: those of the scenario, or of several keys together.
     """
 
-    scenario: Scenario
+    scenario: ScenarioData
     rows: tuple[Row, ...]
     replications: int
     bias: StartBias
@@ -66,7 +66,7 @@ class LongRunReport(Result):
     def of(
         cls,
         rows: Sequence[Row],
-        scenario: Scenario,
+        scenario: ScenarioData,
         replications: int,
         known: LongRun | None = None,
     ) -> LongRunReport:
@@ -216,7 +216,7 @@ def _without_interval(estimates: Sequence[Estimate]) -> Iterator[Remark]:
         yield Remark("no spread", {"policies": names_of(same, MOST_ROWS)})
 
 
-def long_scenario(scenario: Scenario, keys: int) -> Scenario:
+def long_scenario(scenario: ScenarioData, keys: int) -> ScenarioData:
     """Returns the scenario of a long run with so many replications, without `unit`.
 
     It has the most periods, and starts with the mean position of the first policy: a run that starts near the long run
@@ -242,14 +242,14 @@ def long_scenario(scenario: Scenario, keys: int) -> Scenario:
 
 
 def long_run_of(
-    scenario: Scenario, keys: int = KEYS, program: str | Path | None = None
+    scenario: ScenarioData, keys: int = KEYS, program: str | Path | None = None
 ) -> LongRunReport:
     """Runs the policies of a scenario, whose first one is the base, in the long run: see `Scenario.long_run`."""
     asked = long_scenario(scenario, keys)
-    return LongRunReport.of(report_of(asked, program).rows, asked, keys)
+    return LongRunReport.of(rows_of_run(asked, program), asked, keys)
 
 
-def end_warning(scenario: Scenario, rows: Sequence[Row]) -> list[Remark]:
+def end_warning(scenario: ScenarioData, rows: Sequence[Row]) -> list[Remark]:
     """Returns the warning that `unit` charges what is left at the end, if policies are compared: in long-run means."""
     unit, base = scenario.money(scenario.costs.unit), rows[0].policy
     if unit == 0 or len(rows) < 2:
@@ -275,7 +275,7 @@ def end_warning(scenario: Scenario, rows: Sequence[Row]) -> list[Remark]:
     return [Remark("unit of the cheapest" if place else "unit at the end", facts)]
 
 
-def start_warning(rows: Sequence[Row], scenario: Scenario) -> list[Remark]:
+def start_warning(rows: Sequence[Row], scenario: ScenarioData) -> list[Remark]:
     """Returns the warning that a report on the coming periods says little of the long run, if theory tells so exactly.
     `unit` is left out, since `end_warning` is about that."""
     if scenario.replications < 2 or len(rows) < 2:
@@ -297,7 +297,7 @@ def start_warning(rows: Sequence[Row], scenario: Scenario) -> list[Remark]:
 
 
 def coming_decision(
-    given: Sequence[Row], scenario: Scenario, level: float = 0.95
+    given: Sequence[Row], scenario: ScenarioData, level: float = 0.95
 ) -> Decision:
     """Compares the policies of a report on the coming periods of a scenario. Warnings say what the end and the start of
     a replication do to the verdicts on the listed ones."""

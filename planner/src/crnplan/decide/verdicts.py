@@ -20,7 +20,7 @@ from ..columns import columns_of
 from ..crnsim.report import Row
 from ..errors import Refused, argument
 from ..remarks import Remark
-from ..scenario import BY_ITS_LAWS, Scenario
+from ..scenario import BY_ITS_LAWS, ScenarioData
 from ..table import DataTable, Json, Result, names_of
 from ..words import sentence
 
@@ -262,7 +262,7 @@ def with_verdict(rows: Sequence[Compared], verdict: str) -> list[str]:
     return [row.policy for row in rows if row.verdict == verdict]
 
 
-def horizon_of(scenario: Scenario) -> Remark:
+def horizon_of(scenario: ScenarioData) -> Remark:
     """Returns what a report on a scenario is about."""
     return Remark(
         "coming periods", {"periods": scenario.periods, "initial": scenario.initial}

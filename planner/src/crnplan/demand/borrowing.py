@@ -14,11 +14,16 @@ from typing import Any
 
 import numpy as np
 
+from ..arguments import judged
 from ..chances import Floats, Whole, add_times, cut, in_items, mixture, scaled
 from ..compiled import compiled
+from ..errors import Refused
 from ..formats import MOST_DEMAND
 from ..law import Law
+from ..money import Number
 from ..remarks import Remark
+from . import EMPIRICAL
+from .families import FAMILIES, METHODS
 from .fitted import Borrowed, Diagnostics, FittedLaw, seen_law
 from .fitting import boxes_of, cap_of, family_law, share_of
 from .grid import (
@@ -281,3 +286,79 @@ def borrowed_laws(
     return tuple(
         law_of_chances(in_items(law, sample.pack), sample.most) for law in laws
     )
+
+
+@judged("fit")
+def fit_demand(
+    demand: Iterable[Number],
+    *,
+    method: str = "auto",
+    box: int = 1,
+    borrow: Prior | None = None,
+    item_class: str | None = None,
+) -> FittedLaw:
+    """Fits the law of demand to a history, or to any whole numbers from 0, one for each period.
+
+    Parameters
+    ----------
+    demand : iterable of int
+        The demand of each period, in items. One that is None or NaN is not known, and left out, as are the unknown periods
+        of a history.
+    method : str, default "auto"
+        How the law is fitted:
+
+        - `empirical`: each value counts as often as it was seen.
+        - `predictive`: the posterior predictive law of the family with the least BIC of those whose drawn histories look
+          like this one; what was seen, if there is none. Its promised costs are nearest to the true ones. But after few
+          periods it orders too much if sizes are bounded or those of a price list (`rare-bulk` and `prices` in the study
+          planner/studies/laws.py).
+        - `auto`: the mixture of such laws by the likelihood of their families, without demands above two to three times
+          the largest one seen. It is mixed with what was seen too, if that speaks against it, or if the mean would be
+          below 0.97 or the variance below 0.8 of what was seen. It costs more than what was seen most where a law ends
+          abruptly (`cut-NB` in the study).
+        - the name of a family (`poisson`, `negative-binomial`, `hurdle-geometric`, `hurdle-poisson`,
+          `hurdle-negative-binomial`, `hurdle-lognormal` or `bulk`): its posterior predictive law, whether it fits or not.
+          In `bulk`, ordinary demand is Poisson or negative binomial, and in some periods a much larger bulk comes in its
+          place.
+    box : int, default 1
+        The items of a box, at least 1. Numbers are counted in boxes, rounded up.
+    borrow : Prior, optional
+        What a catalogue has learned (`learn`). The law is then learned from it, in place of a method.
+    item_class : str, optional
+        The class of the item in what was learned.
+
+    Returns
+    -------
+    FittedLaw
+        The law, which says how it was fitted.
+
+    Raises
+    ------
+    RefusedFaults
+        With the place of each number that is too large for a scenario.
+    Refused
+        If there is no such method, or a named family does not fit at all.
+
+    Examples
+    --------
+    >>> law = crn.fit_demand([3, 0, 5, 4, 0, 2, 6, 3], method="empirical")
+    >>> law.values, law.weights
+    ((0, 2, 3, 4, 5, 6), (2, 1, 2, 1, 1, 1))
+    >>> crn.fit_demand([3, 0, 5, 4, 0, 2, 6, 3]).values[-1]
+    18
+    """
+    if borrow is not None:
+        if method != "auto":
+            raise Refused(
+                f"a law is either borrowed or fitted by the method {method!r}; leave one out"
+            )
+        return law_of(borrow, demand, item_class, box=box)
+    if method not in METHODS and method not in FAMILIES:
+        raise Refused(
+            f"there is no method {method!r} to fit demand; say {', '.join(METHODS[:-1])} or {METHODS[-1]}"
+        )
+    boxes = boxes_of(demand, box)
+    if method != EMPIRICAL:
+        return family_law(boxes, method, box)
+    seen = Law.of_numbers(boxes)
+    return FittedLaw.made(seen, EMPIRICAL, Diagnostics(seen, method), box)

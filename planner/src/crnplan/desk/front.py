@@ -19,13 +19,15 @@ from ..read.catalogue_reading import CATALOGUE
 from ..drawing.rendering import rendered
 from ..store.files import IN_KEPT, read_folder
 from ..toml.documents import shown
-from .kept import LOOK, PLANNED, PLANS, TESTS, Begun, Desk
+from .kept import LOOK, PLANNED, Begun, Desk
 from .language import ENGLISH, LANGUAGES, as_field, words_of
 from .safety import TOKEN, WHOLE_PAGE, Secret
 from .work import DONE, PLANNING, READING, Work
 
 Made = TypeVar("Made")
 FRONT = "front"  # of an application
+# What computes of the last plan what a page has, before that is asked for.
+PREPARED: list[Callable[[Front], object]] = []
 PAGES = "files", "settings", "plan", "result", "today", "past"
 
 
@@ -95,13 +97,10 @@ class Front:
         return preparing
 
     def _prepare(self) -> None:
-        from .orders import shown_on
-        from .results import listed
-
         # The desk may end meanwhile.
         with contextlib.suppress(CrnplanError, OSError), spelt(as_field):
-            listed(self, "")
-            shown_on(self, str(datetime.date.today())).prepare()
+            for prepare in PREPARED:
+                prepare(self)
 
     @staticmethod
     def _done(state: Any, begun: Begun) -> None:

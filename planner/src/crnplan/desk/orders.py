@@ -18,7 +18,7 @@ from ..read.quantities import quantity_of
 from ..read.stock import ON_ORDER, STOCK
 from ..show.today_tables import OrdersToday, rows_of
 from ..store.digests import digest_of
-from .front import Front, command_of, front, page, whole_of
+from .front import PREPARED, Front, command_of, front, page, whole_of
 from .kept import PLACED, QUANTITIES, TODAY, UNKNOWN, Placed, now
 from .today_files import DAY, TodayFiles, last_plan, today_files
 
@@ -108,6 +108,9 @@ def shown_on(own: Front, day: str) -> Shown:
             return Shown(sign, tables, last_plan(own).days.orders(tables, day))
 
         return own.once(ORDERS, sign, made)
+
+
+PREPARED.append(lambda own: shown_on(own, str(datetime.date.today())).prepare())
 
 
 def counting(own: Front) -> dict[str, Any]:

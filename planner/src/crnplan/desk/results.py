@@ -34,7 +34,16 @@ from ..store.digests import digest_of
 from ..store.files import IN_KEPT
 from ..table import Cell, Column, is_missing
 from ..toml.documents import shown
-from .front import Front, command_of, front, page, state_of, whole_of, whole_page
+from .front import (
+    PREPARED,
+    Front,
+    command_of,
+    front,
+    page,
+    state_of,
+    whole_of,
+    whole_page,
+)
 from .kept import Desk
 from .language import ENGLISH, words_of
 
@@ -159,6 +168,9 @@ def listed(own: Front, name: str) -> Listed:
             return found
 
     return own.once("listed", own.version(name), make)
+
+
+PREPARED.append(lambda own: listed(own, ""))
 
 
 def check(name: str, value: str, choices: Collection[str]) -> None:

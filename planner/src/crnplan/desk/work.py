@@ -20,6 +20,7 @@ from pathlib import Path
 from typing import Any
 
 import crnplan as crn
+from ..api import take_tables
 from ..errors import CrnplanError
 from ..spelling import spelt
 from ..read.catalogue_reading import CATALOGUE
@@ -118,8 +119,6 @@ class Shown:
 
 def read(asked: dict[str, Any], reading: crn.Reading, settings: crn.Settings) -> None:
     """Reads the files of a desk, and keeps what was read."""
-    from ..api import take_tables
-
     tables = asked["tables"]
     read = crn.read_catalogue(
         tables["demand"],

@@ -13,7 +13,6 @@ from typing import NamedTuple
 
 import numpy as np
 
-from ..crnsim.report import Report, report_of
 from ..decide.long_run import LongRunReport
 from ..decide.verdicts import Estimate, ends_of, far_from, t_quantile
 from ..errors import Failed
@@ -21,7 +20,7 @@ from ..formats import MOST_ITEMS, MOST_REPLICATIONS
 from ..remarks import Remark
 from ..policies import Policy
 from ..changing import key_words
-from ..scenario import Scenario
+from ..runs import Report, Scenario
 from .answer import CHOSEN, Figures, Run
 from .question import Levels, Question, Unplanned
 
@@ -124,7 +123,7 @@ def check_run(
     larger = dataclasses.replace(
         scenario, key=tuple(key), replications=MOST_REPLICATIONS
     )
-    again = Sample(question, report_of(larger, program))
+    again = Sample(question, larger.run(program=program))
     rare = {
         row.policy: rare_cost(question, (row.s, row.S), larger) for row in report.rows
     }
@@ -153,7 +152,7 @@ def checked_run(
     Refused if the bias of the start is not known, Disagreement and ProgramError."""
     if not question.has_run:
         return None
-    report = report_of(scenario_of(question, levels), program)
+    report = scenario_of(question, levels).run(program=program)
     sample = Sample(question, report)
     check_run(question, report, sample, figures, program)
     return Checked(run_of(question, report, sample), sample)

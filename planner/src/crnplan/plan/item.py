@@ -11,7 +11,6 @@ from operator import attrgetter
 from typing import NamedTuple
 
 from ..crnsim.periods import Period
-from ..crnsim.report import Report, report_of
 from ..crnsim.trajectory import trajectories
 from ..decide.doubt import Doubt
 from ..decide.verdicts import Compared, Estimate, ends_of, t_quantile, verdict_of
@@ -21,7 +20,7 @@ from ..errors import Refused
 from ..formats import MOST_ITEMS, POLICIES
 from ..law import Law
 from ..policies import Policy
-from ..scenario import Scenario
+from ..runs import Report, Scenario
 from ..theory.lattice import NoTheory
 from ..theory.long_run import Candidate, LongRun
 from ..theory.many_laws import CONFIDENCE, Promises, figures_of_laws
@@ -183,7 +182,7 @@ class Depth:
     def report(self) -> Report:
         """Runs all policies as the answer's run did. Raises Refused if a total is not that of the answer."""
         run = self.run
-        report = report_of(self.scenario, self.program)
+        report = self.scenario.run(program=self.program)
         totals = {row.policy: row.total for row in report.rows}
         own = totals.get(TODAY), totals[self.chosen]
         if own != (run.total_today, run.total_chosen):

@@ -9,7 +9,8 @@ from functools import cached_property
 
 from ..demand.cut_sales import expected_demands
 from ..demand.fitted import Borrowed, FittedLaw, seen_law
-from ..demand.fitting import fit_demand, fit_lead, stated_law
+from ..demand.borrowing import fit_demand
+from ..demand.fitting import fit_lead, stated_law
 from ..demand.borrowing import law_of
 from ..demand.learning import Prior
 from ..errors import CrnplanError, Refused
@@ -20,7 +21,8 @@ from ..read.bounds import Bounds
 from ..read.item import NEW, Item
 from ..remarks import Remark, Value
 from ..policies import Levels as Levels
-from ..scenario import Costs, Scenario
+from ..money import Costs
+from ..runs import Scenario
 from ..theory.lattice import lattice_of, rough_lattice, shape_of, theory_on
 from ..theory.long_run import LongRun
 from ..words import advice, sentence

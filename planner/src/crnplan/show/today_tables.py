@@ -7,14 +7,14 @@ import itertools
 import math
 import re
 import tempfile
-from collections.abc import Callable, Iterable, Iterator, Mapping, Sequence
+from collections.abc import Callable, Iterable, Iterator, Mapping
 from dataclasses import dataclass, field, replace
 from fractions import Fraction
 from functools import cached_property
 from pathlib import Path
 from typing import TYPE_CHECKING, ClassVar
 
-from ..arguments import judged
+from ..read.judging import judged
 from ..errors import Refused
 from ..store.files import Folder
 from ..money import Currency
@@ -38,6 +38,7 @@ from .catalogue_tables import (
 from ..columns import columns_of
 from .control_tables import CONTROL_COLUMNS, controls_of
 from ..drawing.rendering import rendered
+from .book import LINES, new_book, sheet_name
 from .today_rows import (
     CELLS,
     CLASS,
@@ -288,11 +289,12 @@ class OrdersToday(Result):
         Raises
         ------
         Refused
-            If the file can't be written.
+            If the file can't be written, or if there are more lines than a sheet has.
         """
-        from .workbook import write_orders
-
-        write_orders(Path(path), self)
+        with new_book(Path(path), f"Orders of {self.today.day}") as book:
+            book.add(LINES, self.tables["lines"])
+            for place, (supplier, lines) in self.by_supplier.items():
+                book.add(sheet_name(place, supplier), lines)
 
     @property
     def lists(self) -> pd.DataFrame:

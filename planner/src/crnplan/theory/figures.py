@@ -19,7 +19,7 @@ import numpy as np
 
 from ..chances import Floats, Whole
 from ..policies import Policy
-from ..scenario import Scenario
+from ..scenario import ScenarioData
 from .shortfalls import Shortfalls, lateness
 from .walk import (
     LatticeLaw,
@@ -48,7 +48,7 @@ class Figures(NamedTuple):
 class Figured(Walk):
     """The figures of a scenario's policies on a lattice."""
 
-    def __init__(self, scenario: Scenario, step: int, exact: bool) -> None:
+    def __init__(self, scenario: ScenarioData, step: int, exact: bool) -> None:
         """Makes the laws of a scenario."""
         super().__init__(scenario, step, exact)
         costs = scenario.costs

@@ -15,7 +15,7 @@ import numpy as np
 from ..errors import Refused
 from ..formats import MOST_ITEMS
 from ..law import Law
-from ..scenario import Scenario
+from ..scenario import ScenarioData
 from .feasible import ALL, Feasible
 from .grid import gap_grid
 from .long_run import LongRun
@@ -128,7 +128,7 @@ def height_of(demand: Law, returns: Law, step: int) -> float:
     return step * DIGITS / decay_of(net) if net.low < 0 else 0.0
 
 
-def shape_of(scenario: Scenario, least_gap: int = 0) -> Shape:
+def shape_of(scenario: ScenarioData, least_gap: int = 0) -> Shape:
     """Returns the shape of a scenario. Raises NoTheory if it has no best policy."""
     costs = scenario.costs
     for name, cost in (("holding", costs.holding), ("backlog", costs.backlog)):
@@ -190,7 +190,7 @@ def finest(
 
 
 def lattice_of(
-    scenario: Scenario, shape: Shape, widest: int, most_gaps: int = MOST_GAPS
+    scenario: ScenarioData, shape: Shape, widest: int, most_gaps: int = MOST_GAPS
 ) -> tuple[int, bool]:
     """Returns the step of the lattice, and whether it is exact. With one lead time it has at most so many gaps. If it
     is not exact, that of some coarser steps is taken that adds the least variance."""
@@ -229,7 +229,7 @@ def rough_lattice(shape: Shape, cells: int) -> tuple[int, bool]:
 
 
 def theory_on(
-    scenario: Scenario,
+    scenario: ScenarioData,
     shape: Shape,
     step: int,
     exact: bool,
@@ -245,7 +245,7 @@ def theory_on(
 
 
 def theories_of(
-    scenario: Scenario, widest: int | None = None
+    scenario: ScenarioData, widest: int | None = None
 ) -> tuple[LongRun, LongRun | None]:
     """Returns the theory of a scenario, and the one on a lattice twice as coarse, or None if the lattice is exact.
 

@@ -39,7 +39,7 @@ from typing import Any, NamedTuple
 import numpy as np
 
 from ..chances import Floats, Whole
-from ..scenario import Costs, Scenario
+from ..scenario import Costs, ScenarioData
 from .feasible import ALL, Feasible, Places
 from .figures import Figured, Figures
 from .grid import CLOSE, gap_grid, search
@@ -115,7 +115,7 @@ class LongRun(Figured):
 
     def __init__(
         self,
-        scenario: Scenario,
+        scenario: ScenarioData,
         step: int,
         exact: bool,
         most: int,

@@ -24,7 +24,7 @@ from ..chances import Floats
 from ..errors import Refused
 from ..law import Law
 from ..policies import Policy
-from ..scenario import Scenario
+from ..scenario import ScenarioData
 from .feasible import ALL, Feasible
 from .lattice import NoTheory, Shape, finest, shape_of, theory_on
 from .long_run import NO_POLICY, Candidate, LongRun, Sought, place_of_least
@@ -73,8 +73,8 @@ class LawFigures:
 
 
 def under_laws(
-    scenario: Scenario, laws: Iterable[tuple[Law, Law]]
-) -> Iterator[tuple[Scenario, Shape | None]]:
+    scenario: ScenarioData, laws: Iterable[tuple[Law, Law]]
+) -> Iterator[tuple[ScenarioData, Shape | None]]:
     """Yields the scenario under each law of demand and of lead times, with its shape: None if there is nothing to order
     in the long run."""
     for demand, lead in laws:
@@ -86,7 +86,7 @@ def under_laws(
 
 
 def run_of(
-    scenario: Scenario,
+    scenario: ScenarioData,
     shape: Shape,
     widest: int,
     feasible: Feasible = ALL,
@@ -210,7 +210,7 @@ class OwnRun(NamedTuple):
     """The long run of a law, by its place among all, with its scenario and shape, and the widest gap in items."""
 
     place: int
-    scenario: Scenario
+    scenario: ScenarioData
     shape: Shape
     widest: int
     theory: LongRun
@@ -230,7 +230,7 @@ class OwnRun(NamedTuple):
 
 
 def own_runs(
-    scenario: Scenario,
+    scenario: ScenarioData,
     laws: Sequence[tuple[Law, Law]],
     given: int,
     feasible: Feasible,
@@ -247,7 +247,7 @@ def own_runs(
 
 
 def figures_of_laws(
-    scenario: Scenario,
+    scenario: ScenarioData,
     laws: Sequence[tuple[Law, Law]],
     policies: Sequence[Policy],
     feasible: Feasible = ALL,
@@ -293,7 +293,7 @@ class Promises:
 
     def __init__(
         self,
-        scenario: Scenario,
+        scenario: ScenarioData,
         theory: LongRun,
         gap: int,
         laws: Sequence[Law],

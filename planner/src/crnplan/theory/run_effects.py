@@ -27,7 +27,7 @@ from scipy import fft
 
 from ..chances import Floats
 from ..policies import Policy
-from ..scenario import Scenario
+from ..scenario import ScenarioData
 from .feasible import ALL
 from .lattice import MOST_GAPS, NoTheory, lattice_of, shape_of, theory_on
 from .long_run import LongRun
@@ -44,7 +44,7 @@ MOST_BIAS_GAPS = (
 )
 
 
-def theory_of(scenario: Scenario, most_gaps: int = MOST_GAPS) -> LongRun:
+def theory_of(scenario: ScenarioData, most_gaps: int = MOST_GAPS) -> LongRun:
     """Returns the theory of a scenario, fine enough for its own policies, also with costs of 0. With one lead time the
     lattice has at most so many gaps.
 
@@ -83,7 +83,7 @@ def start_of(theory: LongRun, initial: int, policy: Policy, gap: int) -> Start:
 class Runs:
     """Runs of a scenario's policies from their common start. The orders of `counted` reviews all arrive within a run."""
 
-    def __init__(self, theory: LongRun, scenario: Scenario) -> None:
+    def __init__(self, theory: LongRun, scenario: ScenarioData) -> None:
         """Computes what the policies share, as the costs of the periods before the shortest lead time has passed."""
         self.theory = theory
         self.scenario = scenario
@@ -199,7 +199,7 @@ class StartBias(NamedTuple):
     on_lattice: bool
 
 
-def is_fine(theory: LongRun, scenario: Scenario) -> bool:
+def is_fine(theory: LongRun, scenario: ScenarioData) -> bool:
     """Returns whether a theory of a scenario counts it as `theory_of` does for the bias: item by item, if gaps are not
     too wide."""
     widest = max(policy.S - policy.s for policy in scenario.policies)
@@ -207,7 +207,7 @@ def is_fine(theory: LongRun, scenario: Scenario) -> bool:
     return theory.exact and widest + 3 * high <= MOST_BIAS_GAPS * theory.step
 
 
-def start_bias(scenario: Scenario, known: LongRun | None = None) -> StartBias:
+def start_bias(scenario: ScenarioData, known: LongRun | None = None) -> StartBias:
     """Returns the bias of the start of a scenario's policies, over its periods from its `initial`. `known` is a theory
     of the scenario, perhaps with other costs, which is taken if it is fine enough.
 
@@ -249,7 +249,7 @@ def start_bias(scenario: Scenario, known: LongRun | None = None) -> StartBias:
 
 
 def end_effects(
-    scenario: Scenario, policies: Sequence[Policy | Row]
+    scenario: ScenarioData, policies: Sequence[Policy | Row]
 ) -> list[float] | None:
     """Returns what `unit` adds per replication to each policy's cost by its final stock, less that of the first one;
     None if there is no long-run mean, or if its tables are too large."""

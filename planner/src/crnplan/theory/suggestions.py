@@ -21,7 +21,7 @@ from typing import Any
 from ..formats import MOST_ITEMS, POLICIES
 from ..remarks import Remark
 from ..policies import Policy
-from ..scenario import BY_ITS_LAWS, Scenario
+from ..scenario import BY_ITS_LAWS, ScenarioData
 from ..columns import columns_of
 from ..table import DataTable, Json, Result
 from ..toml.scenarios import head_of, plain_text
@@ -64,7 +64,7 @@ COLUMNS = columns_of("theory", "suggestions", {"reasons": reasons_of})
 class Depths:
     """The depths below S, in items, that the position of a scenario can have."""
 
-    def __init__(self, scenario: Scenario) -> None:
+    def __init__(self, scenario: ScenarioData) -> None:
         """Takes the net demands that occur."""
         tables = [table.chances for table in net_tables(scenario)]
         pairs = itertools.product(*tables)
@@ -98,7 +98,7 @@ class Depths:
 class Chosen:
     """Policies in order with the reasons for each, by behaviour. `left_out` are names without a place."""
 
-    def __init__(self, scenario: Scenario) -> None:
+    def __init__(self, scenario: ScenarioData) -> None:
         """Starts with today's policy, the first of the scenario, if there is one."""
         self.depths = Depths(scenario)
         self.policies = {
@@ -138,7 +138,7 @@ def add_fills(chosen: Chosen, theory: LongRun, promises: Promises | None) -> Non
 
 
 def chosen_policies(
-    scenario: Scenario,
+    scenario: ScenarioData,
     theory: LongRun,
     best: Candidate,
     promises: Promises | None = None,
@@ -219,7 +219,7 @@ class ByTheory(Result):
         The mean net demand of a period, in items.
     """
 
-    scenario: Scenario
+    scenario: ScenarioData
     rows: tuple[Suggestion, ...]
     step: int
     error: float | None
@@ -239,7 +239,7 @@ class ByTheory(Result):
 
 
 def figured(
-    scenario: Scenario,
+    scenario: ScenarioData,
     policies: Iterable[Policy],
     theory: LongRun,
     coarse: LongRun | None,
@@ -254,7 +254,7 @@ def figured(
         yield figures._replace(cost=scenario.money(figures.cost)), error
 
 
-def by_theory(scenario: Scenario, policies: Sequence[Policy]) -> ByTheory:
+def by_theory(scenario: ScenarioData, policies: Sequence[Policy]) -> ByTheory:
     """Returns the figures of policies by the theory of a scenario. Raises NoTheory."""
     widest = max(policy.S - policy.s for policy in policies)
     theory, coarse = theories_of(scenario, widest)
@@ -277,7 +277,7 @@ class Suggestions(Result):
     period, and `net` the mean net demand of a period, both in items. `remarks` say how policies were found.
     """
 
-    scenario: Scenario
+    scenario: ScenarioData
     rows: tuple[Suggestion, ...]
     step: int
     error: float | None
@@ -346,7 +346,7 @@ class Suggestions(Result):
         )
 
 
-def suggestions_of(scenario: Scenario) -> Suggestions:
+def suggestions_of(scenario: ScenarioData) -> Suggestions:
     """Returns the suggested policies of a scenario, at most 16 with today's. Raises NoTheory if there is no best one."""
     theory, coarse = theories_of(scenario)
     best = theory.best()

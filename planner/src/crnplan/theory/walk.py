@@ -21,7 +21,7 @@ import numpy as np
 from ..chances import Floats, Whole
 from ..compiled import compiled
 from ..law import Law
-from ..scenario import Scenario
+from ..scenario import ScenarioData
 
 LEAST_CHANCE = 1e-17
 MOST_PRODUCTS = 50_000  # of a direct convolution; a transform is faster for more
@@ -230,7 +230,7 @@ class Surplus:
         return costs
 
 
-def net_tables(scenario: Scenario) -> list[Law]:
+def net_tables(scenario: ScenarioData) -> list[Law]:
     """Returns the table of demand, and that of returns if there are some."""
     return [table for table in (scenario.demand, scenario.returns) if table]
 
@@ -314,7 +314,7 @@ class Walk:
     """The inventory position on a lattice of `step` items. A gap is S - s in cells: an order is placed if the position
     is more than the gap below S."""
 
-    def __init__(self, scenario: Scenario, step: int, exact: bool) -> None:
+    def __init__(self, scenario: ScenarioData, step: int, exact: bool) -> None:
         """Makes the laws of the position. `exact` says that all demands and returns lie on the lattice."""
         self.step = step
         self.exact = exact

@@ -8,7 +8,7 @@ from ...demand import AUTO
 from ...remarks import Remark
 from ..how import NONE
 from ..prices import REST
-from .methods import CORRECTED, KEPT, SEASONAL, TOGETHER
+from .methods import KEPT, SEASONAL, TOGETHER
 from .sums import Sums, whole_of
 
 Words = Mapping[str, Mapping[str, Any]]
