@@ -277,16 +277,10 @@ def missing_of(counts: Counts, answered: int) -> list[str]:
     return [*map(message, missing)]
 
 
-def read_alone(
-    path: Path,
-    tables: Mapping[str, Table | None],
-    words: Reading,
-    jobs: int | None = 1,
-    sizes: Sizes = Sizes(),
-) -> Path:
+def read_alone(path: Path, *given: Any) -> Path:
     """Reads a catalogue into a folder that no other run uses, as `read_into` does."""
     with own_folder(path, CATALOGUE) as folder:
-        return read_into(folder, tables, words, jobs, sizes)
+        return read_into(folder, *given)
 
 
 def read_into(

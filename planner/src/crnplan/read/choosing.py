@@ -175,15 +175,11 @@ def faults_of_where(sheets: Mapping[str, Sheet], words: Reading) -> Iterator[Fau
         tables = [sheet for own, sheet in sheets.items() if kind in ("", own)]
         for sheet in tables:
             if sheet.heading.count(name) > 1:
-                yield Fault(
-                    Remark("same column of where", {"name": name}),
-                    sheet.name,
-                    sheet.line,
-                )
+                yield sheet.fault_of(Remark("same column of where", {"name": name}))
         if not any(name in sheet.heading for sheet in tables):
             first = next(iter(tables or sheets.values()))
             facts = {"name": name, "columns": listed(first.heading)}
-            yield Fault(Remark("no column of where", facts), first.name, first.line)
+            yield first.fault_of(Remark("no column of where", facts))
 
 
 def split_items(rows: Rows) -> dict[str, int]:

@@ -11,7 +11,7 @@ from dataclasses import replace
 from fractions import Fraction
 from typing import TYPE_CHECKING
 
-from ..errors import Fault, RefusedFaults
+from ..errors import RefusedFaults
 from ..remarks import Remark, Value
 from ..table import names_of
 from .amounts import AMOUNTS, ITEM, UNITS
@@ -450,4 +450,4 @@ def stated_columns(
 
 def refused_heading(sheet: Sheet, wrong: Iterable[Remark]) -> RefusedFaults:
     """Returns the error of a heading."""
-    return RefusedFaults([Fault(what, sheet.name, sheet.line) for what in wrong])
+    return RefusedFaults([*map(sheet.fault_of, wrong)])

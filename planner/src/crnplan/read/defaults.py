@@ -2,10 +2,10 @@
 from __future__ import annotations
 
 import re
-from collections.abc import Collection, Mapping, Sequence
+from collections.abc import Callable, Collection, Mapping, Sequence
 from dataclasses import dataclass
 from fractions import Fraction
-from typing import Any, NamedTuple
+from typing import Any, NamedTuple, TypeVar
 
 from ..errors import Refused, argument
 from ..money import Number
@@ -16,6 +16,7 @@ from .amounts import SIGNS, amount_of, share_of
 from .cells import HEADINGS, Cell, Unreadable
 from .times import PERIOD, TimeReader
 
+Made = TypeVar("Made")
 ABC = (80, 95)
 # What is done with rows that stand twice, and with items with far amounts.
 KEEP, LEAVE_OUT = "keep", "leave-out"
@@ -187,14 +188,8 @@ class Defaults(Vocabulary):
 
         :meta private:
         """
-        if not self.lead:
-            return ()
-        try:
-            return tuple(TimeReader().leads(self.lead, "", every))
-        except Unreadable as why:
-            raise Refused(
-                f"{argument('lead', self.lead)}: {message(why.remark)}"
-            ) from why
+        leads = TimeReader().leads
+        return tuple(self._read("lead", leads, "", every)) if self.lead else ()
 
     def reviews(self, every: str) -> int:
         """Returns the periods from one review to the next of an item whose row does not say it: 1 without a default. A
@@ -202,12 +197,19 @@ class Defaults(Vocabulary):
 
         :meta private:
         """
+        if self.review is None:
+            return 1
+        return self._read("review", TimeReader().review, PERIOD, every)
+
+    def _read(
+        self, name: str, read: Callable[..., Made], unit: str, every: str
+    ) -> Made:
+        """Returns a time in periods. Raises Refused with the name of its word."""
+        stated = getattr(self, name)
         try:
-            return TimeReader().review(self.review or 1, PERIOD, every)
+            return read(stated, unit, every)
         except Unreadable as why:
-            raise Refused(
-                f"{argument('review', str(self.review))}: {message(why.remark)}"
-            ) from why
+            raise Refused(f"{argument(name, stated)}: {message(why.remark)}") from why
 
     def fill_of(
         self, group: str, own: Fraction | None, backlog: Fraction | None

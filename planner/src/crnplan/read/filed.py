@@ -34,7 +34,7 @@ from .columns import MONEY
 from .dates import DateReader
 from .defaults import currency_in
 from .law_forms import LAWS
-from .observed import Day, Record, ends_of, record_of
+from .observed import Day, Record, check_ends, record_of
 from .repeated import sums_of_columns
 from .rows import Rows, amount_reader, date_reader
 from .sources import FILE_BITS, Sheet, TextSheet
@@ -240,10 +240,10 @@ class Whole:
                 days[dates["demand"].day(cell)] += count
         if not days:
             check_readable(tables["demand"], dates["demand"])
-        ends = ends_of(words.start, words.end)
-        record = record_of(
-            days, words.every, *ends, words.today or Day.today(), LAWS in tables
-        )
+        check_ends(words.start, words.end)
+        today = words.today or Day.today()
+        ends = words.start, words.end, today
+        record = record_of(days, words.every, *ends, LAWS in tables)
         groups = frozenset(map(text_of, masters.counts("class")))
         sums = sums_of_columns(masters, amounts)
         return cls(dates, amounts, times, currencies, record, groups, sums)

@@ -142,8 +142,7 @@ class Item:
     @property
     def known_places(self) -> list[int]:
         """Returns the places of the periods whose demand is known, from 0."""
-        unknown = {*self.unknown}
-        return [place for place in range(len(self.counts)) if place not in unknown]
+        return sorted({*range(len(self.counts))} - {*self.unknown})
 
     @property
     def demands(self) -> int:
@@ -158,26 +157,23 @@ class Item:
 
     def part(self, start: int, stop: int) -> Item:
         """Returns the item as it is known by some of its periods alone: from one on, counted from 0, before another."""
-        return replace(
-            self,
-            counts=self.counts[start:stop],
-            returns=some(self.returns[start:stop]),
-            unknown=among(self.unknown, range(start, stop)),
-            cut=among(self.cut, range(start, stop)),
-            promoted=among(self.promoted, range(start, stop)),
-            first=self.first + start,
-        )
+        kept = self._kept(range(len(self.counts))[start:stop])
+        return replace(kept, first=self.first + start)
 
     def without(self, places: Collection[int]) -> Item:
         """Returns the item without some of its periods, which are counted from 0."""
-        left = {*places}
-        kept = [place for place in range(len(self.counts)) if place not in left]
+        return self._kept(sorted({*range(len(self.counts))} - {*places}))
+
+    def _kept(self, kept: Sequence[int]) -> Item:
+        """Returns the item by some of its periods in order, as if the others had not been."""
+
+        def those(amounts: Sequence[int]) -> tuple[int, ...]:
+            return tuple(map(amounts.__getitem__, kept if amounts else ()))
+
         return replace(
             self,
-            counts=tuple(map(self.counts.__getitem__, kept)),
-            returns=some(
-                [*map(self.returns.__getitem__, kept if self.returns else ())]
-            ),
+            counts=those(self.counts),
+            returns=some(those(self.returns)),
             unknown=among(self.unknown, kept),
             cut=among(self.cut, kept),
             promoted=among(self.promoted, kept),

@@ -9,7 +9,7 @@ from typing import Any, TypedDict
 
 from ..errors import Refused
 from ..formats import MOST_WEIGHT
-from ..remarks import Remark, joined
+from ..remarks import Remark
 from ..toml.documents import shown
 from ..vocabulary import (
     DATE,
@@ -31,14 +31,13 @@ from ..vocabulary import (
     table_in,
     word,
 )
-from .cells import CellFault, on_one_line, text_of
 from .choosing import conditions_in
 from .columns import COLUMNS, ROLES, unit_fault
 from .dates import EVERY
 from .defaults import KEEP, LEAVE_OUT, Defaults
 from .leads import LEAD_FROM, RECEIPTS
 from .observed import Day, day_of
-from .sources import DECIMAL, DELIMITER, ENCODING, Rules, Sheet
+from .sources import DECIMAL, DELIMITER, ENCODING, Rules
 from .status import AS_STATED, BY_TEST, MEANINGS
 
 OUTSIDE = (
@@ -289,32 +288,3 @@ class Counts(TypedDict):
 
     files: dict[str, FileCounts]
     items: dict[str, int]
-
-
-def reject_of(
-    what: str,
-    sheet: Sheet,
-    line: int,
-    name: str,
-    faults: Sequence[CellFault],
-    rows: int = 0,
-    value: Fraction | None = None,
-) -> Reject:
-    """Returns what is left out or suspicious, with columns (by their roles if the table has none) and texts."""
-    columns = list[str]()
-    texts = list[str]()
-    remarks = list[Remark]()
-    for role, cell, remark in faults:
-        columns.append(sheet.column_of(role, line))
-        texts.append(on_one_line(text_of(cell)))
-        remarks.append(remark)
-    return Reject(
-        what,
-        *sheet.at(line)[:2],
-        name,
-        ", ".join(columns),
-        ", ".join(texts),
-        joined(remarks),
-        rows,
-        value,
-    )

@@ -1,9 +1,7 @@
 """Computes how late suppliers are: what the receipts of their orders took beside the lead times that masters state."""
 from __future__ import annotations
 
-import itertools
 import math
-from collections import Counter
 from collections.abc import Iterator
 from dataclasses import dataclass, field
 from fractions import Fraction
@@ -18,16 +16,15 @@ MOST_SUPPLIERS = 5  # that are named
 
 @dataclass
 class Lateness:
-    """What the receipts of a supplier took: how many took so many days, and of those with a stated lead time how many
-    were late, and the sum of what was stated. `unused` ones count for no lead time of the plan.
+    """What the receipts of a supplier took: their `days`, and of those with a lead time that is `stated` this, and how many
+    were late. `unused` ones count for no lead time of the plan.
     """
 
     supplier: str
     items: int = 0
-    days: Counter[int] = field(default_factory=Counter)
-    compared: int = 0
+    days: list[int] = field(default_factory=list)
+    stated: list[Fraction] = field(default_factory=list)
     late: int = 0
-    stated: Fraction = Fraction(0)
     unused: int = 0
 
     def add(
@@ -35,36 +32,30 @@ class Lateness:
     ) -> None:
         """Adds the receipts of an item."""
         self.items += 1
-        self.days.update(receipts)
+        self.days += receipts
         if not counts_receipts(stated is not None, len(receipts), lead_from):
             self.unused += len(receipts)
         if stated is not None:
-            self.compared += len(receipts)
-            self.stated += len(receipts) * stated
+            self.stated += [stated] * len(receipts)
             self.late += sum(is_late(days, stated) for days in receipts)
 
     @property
     def share(self) -> float | None:
         """Returns the share of receipts that took longer than stated; None if nothing is stated."""
-        return self.late / self.compared if self.compared else None
+        return self.late / len(self.stated) if self.stated else None
 
     @property
     def mean_stated(self) -> float | None:
-        return float(self.stated / self.compared) if self.compared else None
+        return float(sum(self.stated) / len(self.stated)) if self.stated else None
 
     @property
     def seen(self) -> float:
-        return (
-            sum(days * count for days, count in self.days.items()) / self.days.total()
-        )
+        return sum(self.days) / len(self.days)
 
     @property
     def quantile(self) -> int:
         """Returns the least number of days that at least `SHARE` of the receipts did not exceed."""
-        needed = math.ceil(SHARE * self.days.total())
-        longest = sorted(self.days)
-        counts = itertools.accumulate(self.days[days] for days in longest)
-        return next(days for days, count in zip(longest, counts) if count >= needed)
+        return sorted(self.days)[math.ceil(SHARE * len(self.days)) - 1]
 
     @property
     def order(self) -> tuple[bool, float, str]:
@@ -94,15 +85,15 @@ def receipt_remarks(read: Catalogued) -> Iterator[Remark]:
         yield Remark("unused receipts", {"receipts": unused, "least": LEAST_RECEIPTS})
     late = list[Lateness]()
     for supplier in suppliers:
-        is_late = supplier.late > UNLIKE * supplier.compared
-        if is_late and supplier.compared >= LEAST_RECEIPTS:
+        compared = len(supplier.stated)
+        if compared >= LEAST_RECEIPTS and supplier.late > UNLIKE * compared:
             late.append(supplier)
     for supplier in late[:MOST_SUPPLIERS]:
         yield Remark(
             "late supplier",
             {
                 "supplier": supplier.supplier,
-                "receipts": supplier.days.total(),
+                "receipts": len(supplier.days),
                 "seen": supplier.seen,
                 "stated": supplier.mean_stated,
                 "late": supplier.share,

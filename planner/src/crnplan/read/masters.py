@@ -27,9 +27,9 @@ from .filed import SPANS, Whole
 from .item import BORROW, Item, value_of
 from .items import Reading
 from .leads import counts_receipts, leads_from
-from .overrides import Override, level_faults, override_faults, word_of
+from .overrides import Override, level_faults, word_of
 from .status import REPLACED, SUCCESSOR, status_of
-from .tables import TableReader
+from .tables import TableReader, Values
 from .unit_words import SHARES
 
 TEXTS = ("description", "class", "supplier", "override_reason")
@@ -139,9 +139,9 @@ class Masters:
         """Returns by what money is multiplied that has a unit."""
         return self.table.factors.get(role, Fraction(1))
 
-    def values(self, row: int | None) -> tuple[dict[str, Any], list[CellFault]]:
+    def values(self, row: int | None) -> tuple[Values, list[CellFault]]:
         """Returns the values of a row by role, and what is wrong with its cells; none of both without a row."""
-        read: dict[str, Any] = dict.fromkeys(ROLES["items"])
+        read: Values = dict.fromkeys(ROLES["items"])
         values, faults = ({}, []) if row is None else self.table.row(row)
         return {**read, **values}, faults
 
@@ -153,7 +153,7 @@ class Masters:
         """Returns what the stock of a row is worth; None if its stock or its price is missing or can't be read."""
         return value_of(self.values(row)[0]["stock"], self.price(row))
 
-    def _price(self, read: Mapping[str, Any]) -> Fraction | None:
+    def _price(self, read: Values) -> Fraction | None:
         """Returns the price of one item by the values of its row."""
         price: Fraction | None = read["price"]
         if price is None:
@@ -162,7 +162,7 @@ class Masters:
 
     def read(
         self, row: int, observed: Sequence[int], group: str
-    ) -> tuple[dict[str, Any], list[CellFault]]:
+    ) -> tuple[Values, list[CellFault]]:
         """Returns the values of a row by role, None of an empty cell, and all that is wrong with the row. `observed`
         are lead times of orders, for a row that says none, and `group` is the class of the item.
         """
@@ -186,7 +186,7 @@ class Masters:
             faults += level_faults(cells, ("s", "S"), read["s"], read["S"])
         s, S, word, _ = (read[role] for role in OVERRIDE)
         if not unread & {*OVERRIDE}:
-            faults += override_faults(cells, OVERRIDE[:2], s, S, word)
+            faults += level_faults(cells, OVERRIDE[:2], s, S, word)
         if "price" not in unread and not read["price"]:
             if self.share or read["holding"] is None and "holding" not in unread:
                 add("holding", "no price for share")
@@ -201,7 +201,7 @@ class Masters:
         self,
         name: str,
         line: int,
-        read: dict[str, Any],
+        read: Values,
         observed: Sequence[int],
         group: str,
     ) -> Master:
@@ -242,9 +242,7 @@ class Masters:
         )
         return Master(item, decimals_of(map(read.get, MONEY)), sources, read["since"])
 
-    def _sources(
-        self, read: Mapping[str, Any], observed: Sequence[int]
-    ) -> dict[str, str]:
+    def _sources(self, read: Values, observed: Sequence[int]) -> dict[str, str]:
         """Returns by role where the values of a row are from that may have a default."""
         sources = dict[str, str]()
         for role in ("setup", "holding", "lead"):
@@ -270,7 +268,7 @@ class Masters:
             return None
         return Fraction(sum(leads), len(leads)) * DAYS[self.words.every]
 
-    def _bounds(self, read: Mapping[str, Any], price: Fraction | None) -> Bounds:
+    def _bounds(self, read: Values, price: Fraction | None) -> Bounds:
         """Returns the bounds of an item with a price, by the values of its row without units. A 0 of a system states
         none but for s."""
         least = read["order_min"] or None

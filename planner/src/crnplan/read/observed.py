@@ -77,17 +77,12 @@ def stated_day(name: str, day: object) -> Day | None:
         raise Refused(f"{argument(name)}: {why.what}", why.advice) from why
 
 
-def ends_of(
-    start: Day | str | None, end: Day | str | None
-) -> tuple[Day | None, Day | None]:
-    """Returns the stated ends of a record. Raises Refused."""
-    first = stated_day("start", start)
-    last = stated_day("end", end)
-    if first and last and first > last:
+def check_ends(start: Day | None, end: Day | None) -> None:
+    """Raises Refused for stated ends of a record of which the first is after the last."""
+    if start and end and start > end:
         raise Refused(
-            f"{argument('start', str(first))} is after {argument('end', str(last))}; change one of them"
+            f"{argument('start', str(start))} is after {argument('end', str(end))}; change one of them"
         )
-    return first, last
 
 
 def _near(days: Sequence[Day], counts: Mapping[Day, int]) -> Day:

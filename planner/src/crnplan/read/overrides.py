@@ -1,7 +1,7 @@
 """What a planner sets for an item, whatever a plan chooses: s and S, or that nothing is ordered, with a reason."""
 from __future__ import annotations
 
-from collections.abc import Mapping, Sequence
+from collections.abc import Iterator, Mapping, Sequence
 from dataclasses import dataclass
 from fractions import Fraction
 
@@ -65,27 +65,16 @@ def level_faults(
     roles: Sequence[str],
     s: Fraction | None,
     S: Fraction | None,
-) -> list[CellFault]:
-    """Returns what is wrong with the levels of a row, by their roles: one of them alone, or s above S."""
+    word: str | None = None,
+) -> Iterator[CellFault]:
+    """Yields what is wrong with the levels of a row, by their roles: one of them alone, s above S, or levels beside a word
+    that nothing is ordered."""
     low, high = roles
-    if s is None and S is None:
-        return []
-    if s is None:
-        return [fault(low, "", "one level", missing=low, other=high)]
-    if S is None:
-        return [fault(high, "", "one level", missing=high, other=low)]
-    return [fault(low, cells[low], "s above S", s=int(s), S=int(S))] if s > S else []
-
-
-def override_faults(
-    cells: Mapping[str, Cell],
-    roles: Sequence[str],
-    s: Fraction | None,
-    S: Fraction | None,
-    word: str | None,
-) -> list[CellFault]:
-    """Returns what is wrong with an override of a row, by the roles of s and S: also both levels and none."""
-    faults = level_faults(cells, roles, s, S)
-    if word and not faults and s is not None:
-        faults.append(fault(roles[0], cells[roles[0]], "two overrides", word=word))
-    return faults
+    if (s is None) != (S is None):
+        missing, other = (low, high) if s is None else (high, low)
+        yield fault(missing, "", "one level", missing=missing, other=other)
+    elif s is not None and S is not None:
+        if s > S:
+            yield fault(low, cells[low], "s above S", s=int(s), S=int(S))
+        elif word:
+            yield fault(low, cells[low], "two overrides", word=word)

@@ -22,9 +22,9 @@ from .catalogue_reading import READ, Catalogued
 from .cells import fault, reason_of
 from .columns import ROLES
 from .item import overridden
-from .items import Reject, Reading, reject_of
+from .items import Reject, Reading
 from .opening import Table
-from .overrides import Override, override_faults, word_of
+from .overrides import Override, level_faults, word_of
 from .parts import ADD_REJECT, ITEM, REJECT, REPLACE_ITEM
 from .several import open_tables
 from .tables import TableReader
@@ -45,7 +45,7 @@ def overrides_in(table: TableReader) -> dict[str, tuple[int, Override | None]]:
         read, wrong = table.row(row)
         s, S, word, reason = map(read.get, ROLES[OVERRIDES][1:])
         if not wrong:
-            wrong = override_faults(rows.cells(row), ("s", "S"), s, S, word)
+            wrong += level_faults(rows.cells(row), ("s", "S"), s, S, word)
         override = None if wrong else Override.of(s, S, word, reason)
         name = str(rows.cell("item", row))
         known = overrides.setdefault(name, (int(rows.lines[row]), override))
@@ -67,18 +67,16 @@ def read_overrides(
 ) -> tuple[Stated, dict[str, Reject]]:
     """Returns what a table sets by item, None for an item of which nothing is set any longer; and by item what is to be
     said if no such item is in the catalogue. Raises Refused and RefusedFaults."""
+    rejects = list[Reject]()
     with open_tables({OVERRIDES: table}, replace(words, where=())) as sheets:
         if OVERRIDES not in sheets:
             return {}, {}
-        sheet = sheets[OVERRIDES]
-        overrides = overrides_in(TableReader.of(OVERRIDES, sheet))
-    stated = dict[str, Override | None]()
-    unknown = dict[str, Reject]()
-    for name, (line, override) in overrides.items():
-        stated[name] = override
-        wrong = [fault("item", name, "not in the plan")]
-        unknown[name] = reject_of("item", sheet, line, name, wrong)
-    return stated, unknown
+        read = TableReader.of(OVERRIDES, sheets[OVERRIDES], rejects.append)
+        overrides = overrides_in(read)
+    for name, (line, _) in overrides.items():
+        read.name("item", line, name, [fault("item", name, "not in the plan")])
+    stated = {name: override for name, (_, override) in overrides.items()}
+    return stated, {reject.item: reject for reject in rejects}
 
 
 def put_overrides(

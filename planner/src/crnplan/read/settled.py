@@ -33,12 +33,9 @@ def bare_time(reader: TimeReader, cell: Cell) -> Fraction | None:
         parts = [part for time in reader.times(cell) for part in time]
     except Unreadable:
         return None
-    total = Fraction(0)
-    for number, unit in parts:
-        if unit or number <= 0:
-            return None
-        total += number
-    return total / len(parts) if parts else None
+    numbers = [number for number, unit in parts if not unit and number > 0]
+    is_bare = numbers and len(numbers) == len(parts)
+    return sum(numbers, Fraction(0)) / len(numbers) if is_bare else None
 
 
 def seen_times(
@@ -120,7 +117,7 @@ def settle_times(
             why = Remark(
                 "no unit of the column", {"name": column.name, "place": f"items.{role}"}
             )
-            faults.append(Fault(why, sheet.name, sheet.line))
+            faults.append(sheet.fault_of(why))
     if faults:
         raise RefusedFaults(faults)
     return said

@@ -85,7 +85,7 @@ def open_table(
         for word in ("heading", "delimiter"):
             if getattr(sheet, word) != getattr(first, word):
                 what = Remark(f"other {word}", {"first": first.file_name})
-                faults.append(Fault(what, sheet.name, sheet.line))
+                faults.append(sheet.fault_of(what))
     if faults:
         raise RefusedFaults(faults)
     sheet = sheets[0] if len(sheets) == 1 else Files(str(table), sheets)

@@ -335,6 +335,10 @@ class Sheet:
             return heading
         return self.columns[role].name if role in self.columns else role
 
+    def fault_of(self, remark: Remark) -> Fault:
+        """Returns what is wrong with the heading, or what must be asked of the columns."""
+        return Fault(remark, self.name, self.line)
+
     @property
     def keys(self) -> str:
         """Returns the type of the whole numbers that name items; empty if texts do."""

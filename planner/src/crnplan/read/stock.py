@@ -27,7 +27,7 @@ from .opening import Table
 from .quantities import Quantity, quantity_fault
 from .several import open_tables
 from .sources import Sheet
-from .tables import OPEN, PLACES, USED, WITH_ITEM, TableReader
+from .tables import OPEN, PLACES, USED, WITH_ITEM, TableReader, Values
 
 KINDS = STOCK, ON_ORDER, PLACED, QUANTITIES = (
     "stock",
@@ -123,7 +123,7 @@ class _Reader:
         )
         return files == others and all(file.path for file in sheet.files)
 
-    def _read(self, row: int) -> tuple[dict[str, Any], list[CellFault]]:
+    def _read(self, row: int) -> tuple[Values, list[CellFault]]:
         """Returns the values of a row by role, and what is wrong with its cells."""
         values, faults = self.table.row(row)
         if not faults:
@@ -132,13 +132,13 @@ class _Reader:
             values |= self._in_items(row, values)
         return values, faults
 
-    def _in_items(self, row: int, values: Mapping[str, Any]) -> dict[str, Any]:
+    def _in_items(self, row: int, values: Values) -> Values:
         """Returns the amounts of a row in items, by its unit of measure; of open orders with what is still to come: if no
         column says that, what is ordered less what is received and cancelled."""
         size = values.get("factor")
         if size is None:
             size = self.sizes[text_of(self.rows.cell("measure", row))]
-        items = dict[str, Any]()
+        items: Values = {}
         for role in AMOUNTS[self.kind].keys() & values.keys():
             column = self.rows.sheet.columns[role]
             items[role] = values[role] * (1 if column.unit_said else size)
@@ -149,9 +149,7 @@ class _Reader:
             items["filed"] = self._filed(row, items, size)
         return items
 
-    def _filed(
-        self, row: int, items: Mapping[str, Any], size: Fraction | int
-    ) -> Fraction:
+    def _filed(self, row: int, items: Values, size: Fraction | int) -> Fraction:
         """Returns how many items were ordered in a row of open orders; what is still to come if no cell says it."""
         ordered: Fraction = items.get("ordered", items["quantity"])
         for name, mark in self.rows.sheet.marks.items():
@@ -201,7 +199,7 @@ class _Reader:
             self.asked.append(asked)
         return day
 
-    def _judged(self, row: int, values: Mapping[str, Any]) -> Iterator[CellFault]:
+    def _judged(self, row: int, values: Values) -> Iterator[CellFault]:
         """Yields what is wrong with the values of a row, each of which can be read."""
         stock = values.get("stock") or NONE
         owed = values.get("owed") or NONE
@@ -228,17 +226,17 @@ class _Reader:
             yield "quantity", self.rows.cell("quantity", row), wrong
 
     @cached_property
-    def found(self) -> dict[str, list[dict[str, Any]]]:
+    def found(self) -> dict[str, list[Values]]:
         """Returns the items of the plan with the values of their rows, but for those with a row that can't be read."""
         good = self.rows.good
         lines = self.rows.lines.tolist()
         twins = self.rows.twins(good)
         rows_of = self.rows.by_item(good)
         became = np.full(len(self.names), PLACES[OPEN], np.int8)
-        found = dict[str, list[dict[str, Any]]]()
+        found = dict[str, list[Values]]()
         for item in np.unique(self.rows.items[good]).tolist():
             name = self.names[item]
-            read = list[dict[str, Any]]()
+            read = list[Values]()
             rows = rows_of(item).tolist()
             for row in rows:
                 values, faults = self._read(row)
@@ -356,8 +354,7 @@ def _check_asked(readers: Iterable[_Reader]) -> None:
     """Raises RefusedFaults with all that must be asked of the tables."""
     faults = list[Fault]()
     for reader in readers:
-        sheet = reader.rows.sheet
-        faults += [Fault(remark, sheet.name, sheet.line) for remark in reader.asked]
+        faults += map(reader.rows.sheet.fault_of, reader.asked)
     if faults:
         raise RefusedFaults(faults)
 

@@ -9,6 +9,7 @@ from __future__ import annotations
 import itertools
 from collections.abc import Callable, Iterable, Mapping
 from dataclasses import replace
+from typing import Any
 
 from ..errors import Refused
 from ..remarks import Remark, Value
@@ -27,31 +28,21 @@ def summed(item: Item, old: Item) -> Item:
     """Returns an item with the demand, and what came back, of another one too, from the first period of both on. A
     period is known if that of each is, and promoted if that of one is."""
     first = min(item.first, old.first)
-
-    def together(name: str) -> tuple[int, ...]:
+    facts: dict[str, Any] = {"first": first}
+    for name in ("counts", "returns"):
         rows = list[tuple[int, ...]]()
         for part in (item, old):
             amounts = getattr(part, name) or (0,) * len(part.counts)
             rows.append((0,) * (part.first - first) + amounts)
-        return tuple(map(sum, zip(*rows, strict=True)))
-
-    counts, returns = map(together, ("counts", "returns"))
-    unknown, cut, promoted = set[int](), set[int](), set[int]()
+        facts[name] = tuple(map(sum, zip(*rows, strict=True)))
+    places = {name: set[int]() for name in ("unknown", "cut", "promoted", "seen")}
     for part in (item, old):
-        unknown.update(part.first - first + place for place in part.unknown)
-        cut.update(part.first - first + place for place in part.cut)
-        promoted.update(part.first - first + place for place in part.promoted)
-    for part in (item, old):
-        cut -= {part.first - first + place for place in {*part.unknown} - {*part.cut}}
-    return replace(
-        item,
-        first=first,
-        counts=counts,
-        returns=some(returns),
-        unknown=tuple(sorted(unknown)),
-        cut=tuple(sorted(cut)),
-        promoted=tuple(sorted(promoted)),
-    )
+        own = {**vars(part), "seen": {*part.unknown} - {*part.cut}}
+        for name, joint in places.items():
+            joint.update(part.first - first + place for place in own[name])
+    places["cut"] -= places.pop("seen")
+    facts |= {name: tuple(sorted(joint)) for name, joint in places.items()}
+    return replace(item, **facts | {"returns": some(facts["returns"])})
 
 
 def chain_of(name: str, successors: Mapping[str, str]) -> list[str]:

@@ -10,18 +10,19 @@ from typing import Any, TypeVar
 import numpy as np
 import numpy.typing as npt
 
-from ..remarks import Remark
+from ..remarks import Remark, joined
 from .amounts import AMOUNTS, AmountReader
 from .blocks import Column
-from .cells import Cell, CellFault, Flags, Numbers, Unreadable
+from .cells import Cell, CellFault, Flags, Numbers, Unreadable, on_one_line, text_of
 from .columns import factors_of
 from .dates import DateReader
-from .items import Reject, reject_of
+from .items import Reject
 from .observed import Day
 from .rows import Rows, amount_reader, date_reader, rows_of
 from .sources import Sheet
 
 Value = TypeVar("Value")
+Values = dict[str, Any]  # those of a row, by role
 Wrong = dict[int, Remark]  # what is wrong with values, by their codes
 States = npt.NDArray[np.int8]  # of each row what became of it, as a place in STATES
 # What becomes of rows: they are used, rejected, left out with their item, or others than are wanted. At the end none is
@@ -121,9 +122,9 @@ class TableReader:
             if role in self.rows.columns:
                 self.read(role, reader_of(role))
 
-    def row(self, row: int) -> tuple[dict[str, Any], list[CellFault]]:
+    def row(self, row: int) -> tuple[Values, list[CellFault]]:
         """Returns the values of a row by role, None of one that has none, and what is wrong with its cells."""
-        values = dict[str, Any]()
+        values: Values = {}
         for role, known in self.values.items():
             values[role] = known[self.rows.columns[role].codes[row]]
         return values, self.faults(row)
@@ -201,9 +202,22 @@ class TableReader:
         rows: int = 0,
         value: Fraction | None = None,
     ) -> None:
-        """Hands on what is left out or suspicious, with how many rows of demand and which value are left out with it."""
-        if self.add:
-            self.add(reject_of(what, self.rows.sheet, line, item, faults, rows, value))
+        """Hands on what is left out or suspicious, with columns (by their roles if the table has none) and texts, and with how
+        many rows of demand and which value are left out with it."""
+        if self.add is None:
+            return
+        sheet = self.rows.sheet
+        columns, texts, remarks = list[str](), list[str](), list[Remark]()
+        for role, cell, remark in faults:
+            columns.append(sheet.column_of(role, line))
+            texts.append(on_one_line(text_of(cell)))
+            remarks.append(remark)
+        file, line, _ = sheet.at(line)
+        where, text = ", ".join(columns), ", ".join(texts)
+        what_is_wrong = joined(remarks)
+        self.add(
+            Reject(what, file, line, item, where, text, what_is_wrong, rows, value)
+        )
 
     def reject(
         self, row: int, faults: Sequence[CellFault], item: str | None = None

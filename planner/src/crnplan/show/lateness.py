@@ -10,7 +10,7 @@ LATENESS = "lateness.csv"
 
 
 def receipts_of(lateness: Lateness) -> int:
-    return lateness.days.total()
+    return len(lateness.days)
 
 
 COLUMNS = columns_of("show", "lateness", {"receipts": receipts_of})
