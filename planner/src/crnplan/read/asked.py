@@ -29,6 +29,10 @@ ROLES_OF: Mapping[str, set[str]] = {
 # What is asked of a column: which lines are closed, which kind of stock is meant, what its numbers are, and what its marks
 # say, if it has some.
 CLOSED, KIND, COUNT, MARK = "closed", "kind", "count", "mark"
+# Whether a text says yes or no.
+MARKS: Mapping[str, bool] = {
+    word: mark == "yes" for mark, words in HEADINGS["marks"].items() for word in words
+}
 WORDS = {
     name: {*words} for name, words in (HEADINGS["parts"] | HEADINGS["asked"]).items()
 }

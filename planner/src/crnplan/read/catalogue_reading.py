@@ -79,15 +79,14 @@ class Catalogued:
     def fact(self, name: str) -> Any:
         """Returns a fact by its name. Raises Refused if an older crnplan has not kept it, and Damaged."""
         with reading(self.path):
-            row = self.base.execute(
+            for row in self.base.execute(
                 "SELECT value FROM facts WHERE name = ?", [name]
-            ).fetchone()
-            if row is None:
-                raise Refused(
-                    f"{self.folder}: another version of crnplan has read it",
-                    "run crnplan plan again",
-                )
-            return json.loads(row[0])
+            ):
+                return json.loads(row[0])
+        raise Refused(
+            f"{self.folder}: another version of crnplan has read it",
+            "run crnplan plan again",
+        )
 
     def controls(self) -> Controls:
         """Returns the control totals of the tables."""
@@ -314,8 +313,7 @@ def read_into(
         facts = facts_of(filed, whole, read, words)
         facts["controls"] = tree_of(controls)
         facts["counts"] = counts_in(filed, read, controls, writer.pasts())
-        said = [*said_of_masters(filed, settled, facts["sources"])]
-        said += said_of_tables(filed, whole)
+        said = said_of(filed, whole, settled, facts["sources"])
         facts["said"] = [fault.message for fault in said]
         return writer.finish(facts)
 
@@ -329,6 +327,10 @@ def facts_of(
     """Returns what is kept of a catalogue beside its items, but for what its rows come to and what is said."""
     currency = next(iter(distinct(whole.currencies)), "")
     periods = whole.record.periods
+    sources: dict[str, dict[str, int]] = {}
+    counts = sum((part.sources for part in parts), Counter[tuple[str, str]]())
+    for (role, source), count in sorted(counts.items()):
+        sources.setdefault(role, {})[source] = count
     return {
         "every": words.every,
         "decimals": max(
@@ -336,7 +338,7 @@ def facts_of(
         ),
         "currency": currency,
         "abc": words.abc,
-        "sources": sources_by_role(parts),
+        "sources": sources,
         "periods": [periods.start, periods.stop],
         "found": found_of(tables, whole, words),
         "told": told_of(words),
@@ -347,44 +349,36 @@ def facts_of(
     }
 
 
-def said_of_masters(
+def said_of(
     tables: Mapping[str, FiledTable],
+    whole: Whole,
     settled: Iterable[Remark],
     sources: Mapping[str, Mapping[str, int]],
 ) -> Iterator[Fault]:
-    """Yields how lead times of masters were read: also that they are those of
-    receipts, if there are orders and no column of lead times."""
-    sheet = tables["items"].sheet
+    """Yields what is to be said of tables that were read: how lead times were read, also that they are those of receipts, of
+    dates, units that were converted, files that were passed over, and rows that a workbook hides.
+    """
+    every = whole.record.every
+    masters = tables["items"].sheet
     for remark in settled:
-        yield Fault(remark, sheet.file_name)
-    if "orders" in tables and "lead" not in sheet.columns:
+        yield Fault(remark, masters.file_name)
+    if "orders" in tables and "lead" not in masters.columns:
         items = sources.get("lead", {}).get(ORDERS, 0)
-        yield Fault(Remark("leads of receipts", {"items": items}), sheet.file_name)
-
-
-def said_of_tables(tables: Mapping[str, FiledTable], whole: Whole) -> Iterator[Fault]:
-    """Yields what is to be said of tables that were read: of their dates, units that
-    were converted, files that were passed over, and rows that a workbook hides."""
+        yield Fault(Remark("leads of receipts", {"items": items}), masters.file_name)
     for kind, table in tables.items():
         for remark in whole.dates[kind].notes.values():
             yield Fault(remark, table.sheet.file_name)
-    for table in tables.values():
-        sheet = table.sheet
+    for sheet in (table.sheet for table in tables.values()):
         for role, column in sheet.columns.items():
-            if is_converted(column, whole.record.every):
-                yield Fault(
-                    converted(column, role, whole.record.every), sheet.file_name
-                )
+            if is_converted(column, every):
+                yield Fault(converted(column, role, every), sheet.file_name)
         if sheet.locks:
             files = ", ".join(sheet.locks)
             yield Fault(Remark("locks passed over", {"files": files}), sheet.name)
         for file in sheet.files:
-            for remark in file.notes:
+            hidden = Remark("hidden rows", {"count": file.hidden})
+            for remark in (*file.notes, *[hidden] * (file.hidden > 0)):
                 yield Fault(remark, file.file_name)
-            if file.hidden:
-                yield Fault(
-                    Remark("hidden rows", {"count": file.hidden}), file.file_name
-                )
 
 
 def counts_in(
@@ -433,13 +427,3 @@ def remarks_of(
     if items["promoted"]:
         facts = {"items": items["promoted"], "periods": items["promoted_periods"]}
         yield Remark("items with promotions", facts)
-
-
-def sources_by_role(parts: Iterable[PartRead]) -> dict[str, dict[str, int]]:
-    """Returns of how many items a value that may have a default is from where, by role."""
-    roles: dict[str, dict[str, int]] = {}
-    for (role, source), count in sorted(
-        sum((part.sources for part in parts), Counter[tuple[str, str]]()).items()
-    ):
-        roles.setdefault(role, {})[source] = count
-    return roles

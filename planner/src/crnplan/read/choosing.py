@@ -1,5 +1,6 @@
-"""Chooses the rows of tables by what stands in a column (`where`), and looks at columns that may split what an item's
-rows say: places such as stores, and states such as `Cancelled`."""
+"""Marks the columns of tables that choose rows (`where`), that may split what an item's rows say, as places such as stores and
+states such as `Cancelled`, or that are asked about by their cells: which lines are closed, what kind of stock a row is, what
+numbers beside the quantity are, and how many items a unit of measure has."""
 from __future__ import annotations
 
 import re
@@ -12,21 +13,36 @@ import numpy as np
 from ..errors import Fault, Refused
 from ..remarks import Remark, Value
 from ..vocabulary import read_text, several
+from .amounts import ITEM, UNITS
 from .asked import (
     BARE,
     CLOSED,
     COUNT,
+    KIND,
     MARK,
+    MARKS,
     OPEN,
     ORDERED,
     RECEIVED,
     ROLES_OF,
+    WORDS,
     asked_of_order,
     asked_of_stock,
     is_base,
+    is_state,
     part_of,
+    words_of,
 )
-from .cells import HEADINGS, Cell, Numbers, on_one_line, plain_name, some_of
+from .cells import (
+    HEADINGS,
+    Cell,
+    Flags,
+    Numbers,
+    on_one_line,
+    plain_name,
+    some_of,
+    text_of,
+)
 from .columns import ROLES, listed, usual_names
 from .sources import Column, Mark, Sheet
 
@@ -42,6 +58,8 @@ ENDINGS = {*HEADINGS["watched"]["endings"]}
 # Masters are not watched for states: these are the items' own.
 STATE_KINDS = {"demand", "orders", "stock", "on_order", "placed"}
 MOST_VALUES = 6  # that are named
+STATES = {name: {*words} for name, words in HEADINGS["states"].items()}
+NOTHING = re.compile(r"[-+0.,\s]*")  # no number, or 0
 CONDITION = re.compile(rf"(?:({'|'.join(ROLES)})\.)?([^=]*[^=\s][^=]*)=(.*)")
 
 
@@ -114,16 +132,20 @@ def marks_of(kind: str, sheet: Sheet, words: Reading) -> dict[str, Mark]:
     marks: dict[str, Mark] = {}
     for place, name in enumerate(sheet.heading):
         use = asked.get(name) or use_of(name)
-        if name in wanted:
-            values = frozenset(wanted[name])
-            values = frozenset() if ANY in values else values
-            marks[f"={name}"] = Mark(Column(name, place), "", values)
-        elif closed and closed.place == place:
-            marks[f"={name}"] = Mark(closed, CLOSED)
+        values = frozenset(wanted.get(name, ()))
+        is_closed = closed is not None and closed.place == place
+        if is_closed:
+            use = CLOSED
         elif place == filed and name not in asked:
-            marks[f"={name}"] = Mark(Column(name, place), ORDERED)
-        elif use in (uses | {*asked.values()}) and place not in sheet.used:
-            marks[f"={name}"] = Mark(Column(name, place), use)
+            use = ORDERED
+        elif use not in uses | {*asked.values()} or place in sheet.used:
+            use = ""
+        if name in wanted:
+            use = ""
+            values = frozenset() if ANY in values else values
+        elif not use:
+            continue
+        marks[f"={name}"] = Mark(Column(name, place), use, values)
     return marks
 
 
@@ -187,18 +209,11 @@ def split_items(rows: Rows) -> dict[str, int]:
     split = dict[str, int]()
     for name, mark in rows.sheet.marks.items():
         if mark.use == PLACE:
-            split[name] = len(items_with_several(rows, name))
+            codes, distinct = rows.columns[name]
+            values = np.int64(len(distinct) + 1)
+            pairs = np.unique(rows.items[rows.good] * values + codes[rows.good])
+            split[name] = np.count_nonzero(np.bincount(pairs // values) > 1)
     return split
-
-
-def items_with_several(rows: Rows, name: str) -> list[int]:
-    """Returns the items whose rows of use have several values in a column, as codes."""
-    codes, distinct = rows.columns[name]
-    values = np.int64(len(distinct) + 1)
-    pairs = np.unique(rows.items[rows.good] * values + codes[rows.good])
-    items, counts = np.unique(pairs // values, return_counts=True)
-    several: list[int] = items[counts > 1].tolist()
-    return several
 
 
 def places_of(rows: Rows, some: Numbers) -> tuple[str, dict[Cell, int]]:
@@ -237,3 +252,86 @@ def said_of_marks(
             yield Remark("summed places", {**facts, "items": split[name]})
         if mark.use == STATE and len(values) > 1:
             yield Remark("several states", {**facts, "count": len(values)})
+
+
+def is_closed(name: str, cell: Cell) -> bool | None:
+    """Returns whether a cell of a column says that its line is closed; None if that is not known."""
+    text = plain_name(text_of(cell))
+    for state in ("closed", "open"):
+        if text in STATES[state]:
+            return state == "closed"
+    words = words_of(name)
+    may_be_number = not WORDS["cancelled"].isdisjoint(words) and text.isdecimal()
+    if text and (is_state(words) or may_be_number and int(text)):
+        return None
+    return MARKS.get(text)
+
+
+def is_clear(use: str, name: str, cell: Cell) -> bool:
+    """Returns whether a cell of a column needs no question."""
+    text = text_of(cell)
+    plain = plain_name(text)
+    if use == CLOSED:
+        return is_closed(name, cell) is not None
+    if use == KIND:
+        return not plain or plain in STATES["free"]
+    return (
+        use != COUNT or NOTHING.fullmatch(text) is not None or MARKS.get(plain) is False
+    )
+
+
+def ticked(cells: Iterable[Cell]) -> set[Cell]:
+    """Returns the cells of a column that say yes, if each of them says yes or no in words, and not all the same."""
+    texts = {cell: plain_name(text_of(cell)) for cell in cells}
+    said = {cell: MARKS.get(text) for cell, text in texts.items()}
+    is_mark = {*said.values()} == {True, False}
+    is_mark &= not any(map(str.isdecimal, texts.values()))
+    return {cell for cell in said if said[cell] and is_mark}
+
+
+def closed_rows(rows: Rows) -> Iterator[tuple[str, Flags]]:
+    """Yields the columns that say that lines are closed, with those lines."""
+    for name, mark in rows.sheet.marks.items():
+        if mark.use == CLOSED:
+            column = rows.columns[name]
+            known = (is_closed(mark.column.name, cell) for cell in column.distinct)
+            yield mark.column.name, column.of_rows(map(bool, known), bool)
+
+
+def sizes_of(rows: Rows, factors: Mapping[str, int]) -> dict[str, int]:
+    """Returns how many items one of each unit of measure has that is known: of a stated one, an item, and a dozen."""
+    sizes = {"": 1}
+    for text in map(text_of, rows.counts("measure")):
+        unit = UNITS.get(plain_name(text).removesuffix(" s"), "")
+        if unit == ITEM or unit.isdecimal():
+            sizes[text] = 1 if unit == ITEM else int(unit)
+    return {**sizes, **factors}
+
+
+def questions(kind: str, rows: Rows, sizes: Mapping[str, int]) -> Iterator[Remark]:
+    """Yields what must be asked of the columns of a table, whose units of measure have these sizes."""
+    for name, mark in rows.sheet.marks.items():
+        values, own = rows.counts(name), mark.column.name
+        unclear = {cell for cell in values if not is_clear(mark.use, own, cell)}
+        if mark.use == STATE and kind == "on_order" and len(values) > 1:
+            unclear = {*values}
+        if mark.use == MARK:
+            unclear = ticked(values)
+        if unclear:
+            code = "unknown number" if mark.use == COUNT else "unknown state"
+            yield question(code, kind, own, values, unclear)
+    units = rows.counts("measure")
+    unclear = {unit for unit in units if text_of(unit) not in sizes}
+    if unclear and "factor" not in rows.columns:
+        own = rows.sheet.columns["measure"].name
+        yield question("unknown size", kind, own, units, unclear)
+
+
+def question(
+    code: str, kind: str, column: str, values: Mapping[Cell, int], unclear: set[Cell]
+) -> Remark:
+    """Returns a question about the unclear values of a column. The first one is the most frequent."""
+    counts = {value: values[value] for value in unclear}
+    first = max(counts, key=lambda value: (counts[value], str(value)))
+    facts = {"column": column, "kind": kind, "values": named_values(counts)}
+    return Remark(code, {**facts, "first": text_of(first)})

@@ -51,12 +51,8 @@ def found_of(
 
 def _readers(whole: Whole, kind: str) -> dict[str, AmountReader | TimeReader]:
     """Returns what reads the amounts of a table, and the times of masters, by role."""
-    readers = dict[str, AmountReader | TimeReader]()
-    for role in AMOUNTS[kind]:
-        readers[role] = whole.amounts[role]
-    if kind == "items":
-        readers |= whole.times
-    return readers
+    amounts = {role: whole.amounts[role] for role in AMOUNTS[kind]}
+    return {**amounts, **whole.times} if kind == "items" else {**amounts}
 
 
 def _written(
@@ -70,18 +66,12 @@ def _written(
         written["delimiter"] = texts[0].sign
     if len(encodings) == 1 and words.encoding is None:
         written["encoding"] = encodings.pop()
-    firsts = dict[str, bool]()
     for sign, sides in whole.dates[kind].sides.items():
         if len(sides) == 1:
-            (firsts[sign],) = sides
-    if firsts:
-        written["day_first"] = firsts
-    signs = dict[str, str]()
+            written.setdefault("day_first", {})[sign] = True in sides
     for role, reader in _readers(whole, kind).items():
-        if reader.sign:
-            signs[role] = reader.sign
-    if signs and words.decimal is None:
-        written["decimal"] = signs
+        if reader.sign and words.decimal is None:
+            written.setdefault("decimal", {})[role] = reader.sign
     return written
 
 
@@ -105,18 +95,18 @@ def _date_forms(table: FiledTable, reader: DateReader) -> tuple[list[list[Any]],
 def _table_facts(table: FiledTable, whole: Whole, kind: str) -> dict[str, Any]:
     """Returns how a table is written, its columns, its first rows, its dates, and the signs of its amounts."""
     sheet, dates = table.sheet, whole.dates[kind]
-    unused = list[str]()
-    for place, name in enumerate(sheet.heading):
-        if name and place not in sheet.used:
-            unused.append(on_one_line(name))
+    unused = [
+        on_one_line(name)
+        for place, name in enumerate(sheet.heading)
+        if name and place not in sheet.used
+    ]
     forms, unclear = _date_forms(table, dates)
-    signs = []
+    signs = list[Any]()
     for role, reader in _readers(whole, kind).items():
         if reader.sides:
-            texts = list[str]()
-            for sign, text in sorted(reader.sides.items()):
-                texts.append(f"{NAMES[sign]} in {on_one_line(text)}")
-            signs.append([role, texts])
+            sides = sorted(reader.sides.items())
+            said = [f"{NAMES[sign]} in {on_one_line(text)}" for sign, text in sides]
+            signs.append([role, said])
     columns: dict[str, Any] = dict.fromkeys(ROLES[kind])
     columns |= {role: vars(column) for role, column in sheet.columns.items()}
     return {

@@ -1,13 +1,13 @@
 """Has the movements of an item, as rows of demand state them, the rows that can't be read, and those of a promotion."""
 from __future__ import annotations
 
-from collections.abc import Callable, Mapping
+from collections.abc import Callable
 from typing import NamedTuple
 
 import numpy as np
 
+from .asked import MARKS
 from .cells import (
-    HEADINGS,
     Cell,
     CellFault,
     Flags,
@@ -21,10 +21,6 @@ from .cells import (
 from .items import OUTSIDE
 from .rows import far_above
 from .tables import TableReader
-
-MARKS: Mapping[str, bool] = {
-    word: mark == "yes" for mark, words in HEADINGS["marks"].items() for word in words
-}
 
 
 def is_marked(cell: Cell) -> bool:

@@ -52,11 +52,11 @@ def files_of(table: Table, kind: str) -> tuple[Sequence[Table], Sequence[str]]:
     ):
         return [table], []
     names = sorted(glob.glob(str(table)))
-    locks = [Path(name).name for name in names if Path(name).name.startswith(LOCK)]
-    tables: list[Table] = [name for name in names if Path(name).name not in locks]
+    locks = [name for name in names if Path(name).name.startswith(LOCK)]
+    tables: Sequence[Table] = sorted({*names} - {*locks})
     if kind == "items" and len(tables) > 1:
         raise refused("several files", str(table), count=len(tables))
-    return tables or [table], locks
+    return tables or [table], [Path(name).name for name in locks]
 
 
 def open_table(

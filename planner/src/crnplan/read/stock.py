@@ -17,9 +17,16 @@ from ..errors import Fault, RefusedFaults
 from ..remarks import Remark, Value
 from .amounts import AMOUNTS
 from .asked import ORDERED
-from .asking import closed_rows, question, questions, sizes_of
 from .cells import CellFault, Flags, fault, reason_of, text_of
-from .choosing import PLACE, said_of_marks, split_items
+from .choosing import (
+    PLACE,
+    closed_rows,
+    question,
+    questions,
+    said_of_marks,
+    sizes_of,
+    split_items,
+)
 from .controls import Controls, controls_of, counts_of
 from .items import FileCounts, Reject, Reading
 from .observed import Day
