@@ -2,12 +2,12 @@
 from __future__ import annotations
 
 from collections import Counter
-from collections.abc import Callable, Iterable, Mapping, Sequence
+from collections.abc import Iterable, Mapping
 from dataclasses import dataclass
 from fractions import Fraction
 from functools import cached_property
 from operator import ge, mul
-from typing import TYPE_CHECKING, Any, TypeVar, cast
+from typing import TYPE_CHECKING, Any, cast
 
 from .arguments import judged
 from .drawing.pictures import Picture, law_picture
@@ -15,6 +15,7 @@ from .errors import Refused
 from .formats import MOST_DEMAND, MOST_WEIGHT
 from .money import Number, exact, whole, whole_numbers
 from .toml.documents import shown
+from .vocabulary import read_argument
 
 if TYPE_CHECKING:
     import numpy as np
@@ -22,7 +23,6 @@ if TYPE_CHECKING:
 
     from .chances import Floats, Whole
 
-Made = TypeVar("Made")
 # By so much a sum of chances may differ from 1, as by rounding.
 MOST_OFF = Fraction(1, 1000)
 NEARLY_1 = float(MOST_OFF)
@@ -60,7 +60,7 @@ class Law:
         for name in ("values", "weights"):
             numbers = getattr(self, name)
             if type(numbers) is not tuple or {*map(type, numbers)} - {int}:
-                object.__setattr__(self, name, tuple(_named(name, _whole, numbers)))
+                object.__setattr__(self, name, tuple(read_argument(name, numbers, _whole)))
         values, weights = self.values, self.weights
         if not (values or weights):
             return
@@ -105,7 +105,7 @@ class Law:
         >>> crn.Law.of({0: 0.5, 4: 0.5})
         Law(values=(0, 4), weights=(32768, 32768))
         """
-        return _named("weights", cls._of, weights)
+        return read_argument("weights", weights, cls._of)
 
     @classmethod
     def _of(cls, weights: Mapping[int, Number]) -> Law:
@@ -127,9 +127,15 @@ class Law:
                     "write a whole number from 0, or a share of 1",
                 )
             parts[number] = part
-        if any(part.denominator > 1 for part in parts.values()):
-            return cls.of_shares(parts)
-        return cls._of_whole({value: int(part) for value, part in parts.items()})
+        if all(part.denominator == 1 for part in parts.values()):
+            return cls._of_whole({value: int(part) for value, part in parts.items()})
+        total = sum(parts.values(), Fraction(0))
+        if abs(total - 1) > MOST_OFF:
+            raise Refused(
+                f"the weights add up to {float(total):g}, and some are parts",
+                "write whole weights, or shares with the sum 1",
+            )
+        return cls.of_parts(parts)
 
     @classmethod
     def _of_whole(cls, weights: Mapping[int, int]) -> Law:
@@ -152,25 +158,6 @@ class Law:
     def plot(self) -> Picture:
         """Draws the chance of each value."""
         return law_picture(self.values, self.weights, float(self.mean))
-
-    @classmethod
-    def of_shares(cls, shares: Mapping[int, Fraction]) -> Law:
-        """Makes a law from exact shares: see `of`.
-
-        Parameters
-        ----------
-        shares : mapping of int to Fraction
-            Shares above 0 by value. Raises Refused if their sum is not 1.
-
-        :meta private:
-        """
-        total = sum(shares.values(), Fraction(0))
-        if abs(total - 1) > MOST_OFF:
-            raise Refused(
-                f"the weights add up to {float(total):g}, and some are parts",
-                "write whole weights, or shares with the sum 1",
-            )
-        return cls.of_parts(shares)
 
     @classmethod
     def of_parts(cls, parts: Mapping[int, Fraction]) -> Law:
@@ -203,7 +190,7 @@ class Law:
         >>> crn.Law.of_numbers([0, 4, 4])
         Law(values=(0, 4), weights=(1, 2))
         """
-        return _named("numbers", cls._of_numbers, numbers)
+        return read_argument("numbers", numbers, cls._of_numbers)
 
     @classmethod
     def _of_numbers(cls, numbers: Iterable[Number]) -> Law:
@@ -286,19 +273,6 @@ class Law:
         np.add.at(chances, below + 1, above)
         return Law.of_chances(chances / self.size)
 
-    @classmethod
-    def of_tree(cls, tree: Mapping[str, Sequence[int]]) -> Law:
-        """Makes a law from a tree with the keys `values` and `weights`, as they stand there.
-
-        Parameters
-        ----------
-        tree : mapping of str to sequence of int
-            As a table of a scenario has it.
-
-        :meta private:
-        """
-        return Law(tuple(tree["values"]), tuple(tree["weights"]))
-
     @property
     def tree(self) -> dict[str, list[int]]:
         """Returns the tree that TOML has.
@@ -306,20 +280,6 @@ class Law:
         :meta private:
         """
         return {"values": list(self.values), "weights": list(self.weights)}
-
-    def toml(self, name: str) -> str:
-        """Returns the table of a scenario as TOML.
-
-        Parameters
-        ----------
-        name : str
-            The name of the table, as `demand`.
-
-        :meta private:
-        """
-        return (
-            f"[{name}]\nvalues = {list(self.values)}\nweights = {list(self.weights)}\n"
-        )
 
     @property
     def table(self) -> Law:
@@ -397,14 +357,6 @@ def _whole(numbers: Any) -> list[int]:
     return whole_numbers(numbers, "entry")
 
 
-def _named(name: str, make: Callable[[Any], Made], given: Any) -> Made:
-    """Returns what is made of an argument, whose name each refusal has."""
-    try:
-        return make(given)
-    except Refused as why:
-        raise Refused(f"{name}: {why.what}", why.advice) from why
-
-
 # What stands for a law: a law, values with weights, or what was observed.
 Chances = Law | Mapping[int, Number] | Iterable[Number]
 
@@ -415,4 +367,4 @@ def law_of(law: Any, name: str) -> Law:
     if isinstance(law, Law):
         return law.table
     make = Law._of if isinstance(law, Mapping) else Law._of_numbers
-    return _named(name, make, law)
+    return read_argument(name, law, make)

@@ -66,7 +66,7 @@ class ScenarioData:
         """
         fields: Tree = {**tree}
         fields |= {
-            name: Law.of_tree(fields[name]) for name in formats.DRAWS if name in fields
+            name: Law(**fields[name]) for name in formats.DRAWS if name in fields
         }
         fields |= {"key": tuple(fields["key"]), "costs": Costs(**fields["costs"])}
         return cls(

@@ -277,7 +277,6 @@ def test_diagnostics() -> None:
     assert (seen.mean, seen.variance, seen.most) == (2.0, 8.0, 6)
     assert (law.diagnostics.seen.size, law.figures.variance) == (4, 6)
     assert fit_demand([3], method="empirical").diagnostics.history.variance is None
-    assert law.toml("demand") == "[demand]\nvalues = [0, 2, 6]\nweights = [2, 1, 1]\n"
 
 
 @pytest.mark.parametrize("case", cases("notes.toml"), ids=lambda it: it["lines"][:1])

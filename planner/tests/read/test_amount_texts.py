@@ -186,7 +186,7 @@ def test_lead_times_are_read_as_they_were_written(
         texts.append(spelt(number, decimal, group) + word)
         written.append((number, unit if has_units else ""))
     try:
-        read = TimeReader(decimal if is_stated else None).times(separator.join(texts))
+        read = TimeReader(decimal if is_stated else None).read(separator.join(texts))
     except Unreadable as why:
         assert why.remark.code in ("two readings", "no number by this sign", "no time")
         return
@@ -204,4 +204,4 @@ def test_lead_times_are_read_as_they_were_written(
 )
 def test_usual_lists_are_read(text: str, count: int) -> None:
     """Usual lists are not refused."""
-    assert len(TimeReader().times(text)) == count
+    assert len(TimeReader().read(text)) == count

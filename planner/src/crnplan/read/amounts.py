@@ -140,11 +140,11 @@ def amounts_of(text: str) -> Mapping[str, Amount]:
         return {}
     parts = WRAPPED.fullmatch(text)
     if parts:
-        text = f"{parts['before']}{parts['inside'].strip()}{parts['behind']}"
+        text = f"{parts['before']}-{parts['inside'].strip()}{parts['behind']}"
     shell = SHELL.fullmatch(text)
     if shell is None or shell["before"] and (shell["behind"] or shell["unit"]):
         return {}
-    signs = shell["first"] + shell["second"] + shell["last"] + "-" * (parts is not None)
+    signs = shell["first"] + shell["second"] + shell["last"]
     if len(signs) > 1:
         return {}
     currency = shell["before"] or shell["behind"] or ""
@@ -183,22 +183,23 @@ class ColumnReader(ABC, Generic[Reading]):
         """Returns the readings of a text by each decimal sign."""
 
     @abstractmethod
+    def plain(self, number: Fraction) -> Reading:
+        """Returns the reading of a number."""
+
+    @abstractmethod
     def named(self, reading: Reading) -> tuple[Fraction, str]:
         """Returns how large a reading is, and its text for a reader."""
 
     def look(self, cells: Iterable[Cell]) -> Self:
         """Looks at cells of the column for its decimal sign, which a number of a workbook has not. Returns itself."""
-        for text in cells:
-            if isinstance(text, Shown):
-                self.see(str(text), {"": self.stored(text)})
-            if not isinstance(text, str) or text.isdecimal():
+        for cell in cells:
+            if not isinstance(cell, (str, Shown)) or str(cell).isdecimal():
                 continue
-            by_sign = self.readings(text)
+            text, by_sign = str(cell), self.by_sign(cell)
             self.see(text, by_sign)
-            if self.stated is None and ("," in text or "." in text):
-                signs = [*filter(by_sign.get, by_sign)]
-                if len(signs) == 1:
-                    self.sides.setdefault(signs[0], text)
+            signs = "".join(filter(by_sign.get, by_sign))
+            if self.stated is None and len(signs) == 1 and {*DECIMALS} & {*text}:
+                self.sides.setdefault(signs, text)
         return self
 
     def see(self, text: str, by_sign: Mapping[str, Collection[Reading]]) -> None:
@@ -209,26 +210,28 @@ class ColumnReader(ABC, Generic[Reading]):
         """Returns the decimal sign: the stated one, or the only one that the column has; None if it is not known."""
         return self.stated or (next(iter(self.sides)) if len(self.sides) == 1 else None)
 
-    def stored(self, cell: Shown) -> Collection[Reading]:
-        """Returns the readings of a number of a workbook, whatever the decimal sign of texts is."""
-        return self.readings(str(cell))["."]
+    def by_sign(self, cell: str | Shown) -> Mapping[str, Collection[Reading]]:
+        """Returns the readings of a text by each decimal sign; those of a number of a workbook are by no sign."""
+        if isinstance(cell, str):
+            return self.readings(cell)
+        return {"": self.readings(str(cell))["."]}
 
-    def chosen(self, cell: str | Shown) -> Reading:
-        """Returns the one reading of a text, or of a number of a workbook. Raises Unreadable."""
-        text = str(cell)
-        stored = self.stored(cell) if isinstance(cell, Shown) else None
-        by_sign = self.readings(text) if stored is None else {"": stored}
-        fitting = readings = joined(by_sign)
-        sign = None if stored is not None else self.stated
-        if stored is None and len(readings) > 1:
-            sign = self.sign
-        if sign:
-            fitting = [*by_sign[sign]]
+    def read(self, cell: Cell) -> Reading:
+        """Returns the one reading of a cell that is not empty. Raises Unreadable."""
+        if not isinstance(cell, (str, Shown)):
+            number = exact(cell)
+            if number is None:
+                raise Unreadable(self.none, cell)
+            return self.plain(number)
+        text, by_sign = str(cell), self.by_sign(cell)
+        readings = joined(by_sign)
+        sign = self.sign if len(readings) > 1 else self.stated
+        fitting = [*by_sign.get(sign or "", readings)]
         if len(fitting) == 1:
             return fitting[0]
         if fitting:
             raise self.doubt(text, fitting)
-        if sign and self.stated and readings:
+        if self.stated and readings:
             other = next(filter(by_sign.get, by_sign))
             raise Unreadable("no number by this sign", text, other=other)
         raise Unreadable(self.none, text, other="")
@@ -266,10 +269,16 @@ class AmountReader(ColumnReader[Amount]):
         found = amounts_of(text)
         return {sign: [*filter(None, [found.get(sign)])] for sign in DECIMALS}
 
-    def stored(self, cell: Shown) -> Collection[Amount]:
-        """Returns the reading of a number of a workbook; none if its format shows another sign than it has."""
+    def by_sign(self, cell: str | Shown) -> Mapping[str, Collection[Amount]]:
+        """Returns no reading of a number of a workbook whose format shows another sign than it has."""
+        found = super().by_sign(cell)
+        if isinstance(cell, str):
+            return found
         number = Fraction(cell.digits)
-        return [it for it in super().stored(cell) if it.number == number]
+        return {"": [it for it in found[""] if it.number == number]}
+
+    def plain(self, number: Fraction) -> Amount:
+        return Amount(number)
 
     def named(self, reading: Amount) -> tuple[Fraction, str]:
         return abs(reading.number), reading.text
@@ -284,25 +293,28 @@ class AmountReader(ColumnReader[Amount]):
         if isinstance(cell, str) and cell.isascii() and cell.isdecimal():
             if len(cell) <= MOST_LETTERS:
                 return Amount(Fraction(int(cell)))
-        if isinstance(cell, (str, Shown)):
-            amount = self.chosen(cell)
-            if amount.currency and self.currencies is None:
-                raise Unreadable(self.none, cell)
-            return amount
-        number = exact(cell)
-        if number is None:
+        amount = self.read(cell)
+        if amount.currency and self.currencies is None:
             raise Unreadable(self.none, cell)
-        return Amount(number)
+        return amount
 
-    def number(self, cell: Cell, kind: str = "number") -> Fraction:
-        """Returns the number of a cell, which is of a kind of KINDS. Raises Unreadable."""
+    def number(
+        self, cell: Cell, kind: str = "number", unit: str | None = None
+    ) -> Fraction:
+        """Returns the number of a cell, which is of a kind of KINDS. In a column of chances and the like, which has a unit, it
+        is in percent if that or the cell says so. What such numbers add up to, or are between, shows one that is written
+        otherwise. Raises Unreadable."""
         if_empty, *_ = KINDS[kind]
         if cell == "" and if_empty:
             raise Unreadable(if_empty)
         amount = Amount(Fraction(0)) if cell == "" else self.amount(cell)
-        if amount.unit and not (self.counts_items and amount.unit == ITEM):
+        number, own = amount.number, ITEM * self.counts_items
+        if unit is not None:
+            own = PERCENT
+            number /= 100 if PERCENT in (amount.unit, unit) else 1
+        if amount.unit not in ("", own):
             raise Unreadable(self.none, cell)
-        return checked(amount.number, kind, cell)
+        return checked(number, kind, cell)
 
     def known(self, cell: Cell) -> Fraction | None:
         """Returns the number of a cell; None if it has none."""
@@ -310,18 +322,6 @@ class AmountReader(ColumnReader[Amount]):
             return None if cell == "" else self.number(cell)
         except Unreadable:
             return None
-
-    def part(self, cell: Cell, unit: str, kind: str) -> Fraction:
-        """Returns a chance or the like, of a kind of KINDS, of a column that is perhaps in percent; so is a cell that says
-        so. What such numbers add up to, or are between, shows one that is written otherwise. Raises Unreadable.
-        """
-        if cell == "":
-            raise Unreadable("no amount")
-        amount = self.amount(cell)
-        if amount.unit not in ("", PERCENT) or amount.currency:
-            raise Unreadable(self.none, cell)
-        percent = PERCENT in (amount.unit, unit)
-        return checked(amount.number / (100 if percent else 1), kind, cell)
 
     def share(self, cell: Cell, unit: str, role: str) -> Fraction:
         """Returns a share above 0, of a column in shares or in percent. Raises Unreadable."""

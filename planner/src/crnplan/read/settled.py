@@ -30,7 +30,7 @@ LEAST_RECEIPTS, LEAST_SHARE = 3, Fraction(4, 5)
 def bare_time(reader: TimeReader, cell: Cell) -> Fraction | None:
     """Returns the mean of the numbers of a cell if none has a unit; None if one has, or if none is above 0."""
     try:
-        parts = [part for time in reader.times(cell) for part in time]
+        parts = [part for time in reader.read(cell) for part in time]
     except Unreadable:
         return None
     numbers = [number for number, unit in parts if not unit and number > 0]

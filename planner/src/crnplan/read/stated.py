@@ -90,10 +90,8 @@ class StatedLaws:
         """Returns what reads the numbers of a column, of a kind of KINDS: shares in percent if it is, or if the cell says
         so."""
         reader = self.table.amounts[role]
-        if role not in SHARES:
-            return lambda cell: reader.number(cell, kind)
-        unit = self.rows.sheet.columns[role].unit
-        return lambda cell: reader.part(cell, unit, kind)
+        unit = self.rows.sheet.columns[role].unit if role in SHARES else None
+        return lambda cell: reader.number(cell, kind, unit)
 
     def _period(self, cell: Cell) -> int:
         """Returns the number of the period of a path: as it stands there, or that of a date."""

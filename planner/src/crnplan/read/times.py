@@ -8,9 +8,8 @@ from collections.abc import Collection, Iterator, Mapping, Sequence
 from fractions import Fraction
 
 from ..formats import MOST_LEAD
-from ..money import exact
 from .amounts import DECIMALS, Amount, ColumnReader, amounts_of
-from .cells import Cell, Shown, Unreadable
+from .cells import Cell, Unreadable
 from .columns import DAYS, conversion, periods_of
 
 # A time is a sum of numbers, each with its unit, empty for that of the column. A cell is read as some times.
@@ -114,6 +113,9 @@ class TimeReader(ColumnReader[Times]):
             readings[decimal] = [*in_order(parts)]
         return readings
 
+    def plain(self, number: Fraction) -> Times:
+        return (((number, ""),),)
+
     def named(self, reading: Times) -> tuple[Fraction, str]:
         texts = list[str]()
         total = Fraction(0)
@@ -125,15 +127,6 @@ class TimeReader(ColumnReader[Times]):
                 words.append(Amount(number, unit=unit + ending).text)
             texts.append(" ".join(words))
         return total, " and ".join(texts)
-
-    def times(self, cell: Cell) -> Times:
-        """Returns the times of a cell. Raises Unreadable."""
-        if isinstance(cell, (str, Shown)):
-            return self.chosen(cell)
-        number = exact(cell)
-        if number is None:
-            raise Unreadable(self.none, cell)
-        return (((number, ""),),)
 
     def periods(self, time: Time, unit: str, every: str, cell: Cell) -> Fraction:
         """Returns a time in periods. `unit` is that of the column, empty if it is not known. Raises Unreadable."""
@@ -152,7 +145,7 @@ class TimeReader(ColumnReader[Times]):
     def leads(self, cell: Cell, unit: str, every: str) -> list[int]:
         """Returns the lead times of a cell in whole periods: one, or several that were observed. Raises Unreadable."""
         leads = list[int]()
-        for time in self.times(cell):
+        for time in self.read(cell):
             periods = self.periods(time, unit, every, cell)
             if unit == PERIOD and periods.denominator > 1:
                 raise Unreadable("no whole lead time", cell)
@@ -164,7 +157,7 @@ class TimeReader(ColumnReader[Times]):
 
     def span(self, cell: Cell, unit: str, every: str) -> Fraction:
         """Returns the one time of a cell, in periods. Raises Unreadable."""
-        times = self.times(cell)
+        times = self.read(cell)
         periods = self.periods(times[0], unit, every, cell)
         if len(times) > 1 or periods < 0:
             raise Unreadable(self.none, cell)
