@@ -35,9 +35,10 @@ FORMS: Mapping[str, tuple[tuple[str, ...], ...]] = {
     QUANTILES: (("quantile",), ("value",)),
     PATHS: (("path",), ("period",), ("value",)),
 }
-SHARED = {"value"}  # the columns of several forms
+SHARED = "value"  # the column of several forms
 # What says for which time a law holds. In sample paths it numbers the periods.
 TIME = "period"
+COMMON = SHARED, TIME
 CLOSE = (
     1e-6  # The ratio of a variance to its mean differs from 1 by less in a Poisson law.
 )
@@ -56,49 +57,47 @@ class Unlawful(Exception):
 
 
 def form_of(roles: Collection[str]) -> str | None:
-    """Returns the form of a table with columns of these roles; None if it has none, or not all columns of it."""
-    form = next((form for form in FORMS if marks_of(form, roles)), None)
-    return None if form is None or [*form_faults(roles)] else form
+    """Returns the form of a table with columns of these roles, which has no fault; None if it has none."""
+    return next((form for form in FORMS if marks_of(form, roles)), None)
+
+
+def columns_of(form: str) -> list[str]:
+    """Returns the columns that a form may have."""
+    return [role for group in FORMS[form] for role in group]
 
 
 def marks_of(form: str, roles: Collection[str]) -> list[str]:
     """Returns those of some roles that no other form has, but for the period."""
-    own = [role for group in FORMS[form] for role in group]
-    return [role for role in own if role in roles and role not in {*SHARED, TIME}]
-
-
-def form_faults(roles: Collection[str]) -> Iterator[Remark]:
-    """Yields why a table with columns of these roles is of no one form of laws."""
-    marks = {form: marks for form in FORMS if (marks := marks_of(form, roles))}
-    if not marks:
-        forms = "; ".join(f"{form} ({needs_of(form)})" for form in FORMS)
-        yield Remark("no form of laws", {"forms": forms})
-    elif len(marks) > 1:
-        (form, (role, *_)), (other, (column, *_)), *_ = marks.items()
-        facts = {"form": form, "role": role, "other": other, "column": column}
-        yield Remark("two forms of laws", facts)
-    else:
-        ((form, _),) = marks.items()
-        yield from faults_of(form, roles)
+    return [role for role in columns_of(form) if role in roles and role not in COMMON]
 
 
 def needs_of(form: str) -> str:
-    """Returns the columns of a form."""
+    """Returns the columns that a form must have."""
     return ", ".join(" or ".join(group) for group in FORMS[form])
 
 
-def faults_of(form: str, roles: Collection[str]) -> Iterator[Remark]:
-    """Yields what a table of a form lacks, and which columns of it say the same, or have no place in it."""
-    for group in FORMS[form]:
-        there = [role for role in group if role in roles]
-        facts = {"form": form, "needs": needs_of(form), "roles": " or ".join(group)}
-        if not there:
-            yield Remark("no column of the form", facts)
-        if len(there) > 1:
-            yield Remark("two columns of the form", {**facts, "role": there[1]})
-    own = {role for group in FORMS[form] for role in group}
-    for role in sorted(SHARED & {*roles} - own):
-        yield Remark("no place in the form", {"form": form, "role": role})
+def form_faults(roles: Collection[str]) -> Iterator[Remark]:
+    """Yields why a table with columns of these roles is of no one form of laws: what it lacks, and which columns of it say
+    the same, or have no place in it."""
+    marks = {form: marks for form in FORMS if (marks := marks_of(form, roles))}
+    if len(marks) > 1:
+        (form, (role, *_)), (other, (column, *_)), *_ = marks.items()
+        facts = {"form": form, "role": role, "other": other, "column": column}
+        yield Remark("two forms of laws", facts)
+        return
+    if not marks:
+        forms = "; ".join(f"{form} ({needs_of(form)})" for form in FORMS)
+        yield Remark("no form of laws", {"forms": forms})
+    for form in marks:
+        for group in FORMS[form]:
+            there = [role for role in group if role in roles]
+            facts = {"form": form, "needs": needs_of(form), "roles": " or ".join(group)}
+            if not there:
+                yield Remark("no column of the form", facts)
+            if len(there) > 1:
+                yield Remark("two columns of the form", {**facts, "role": there[1]})
+        if SHARED in roles and SHARED not in columns_of(form):
+            yield Remark("no place in the form", {"form": form, "role": SHARED})
 
 
 def law_of_weights(weights: Mapping[int, int]) -> Law:
@@ -138,7 +137,7 @@ def above_of(mean: float, variance: float) -> Above:
 def binomials_above(mean: float, variance: float) -> Above:
     """Returns the chances to be above numbers of the mixture of two binomials with a mean and a variance below it: of k
     and k + 1 trials with one chance p, the first one with the share q."""
-    from scipy.special import betainc
+    from scipy.special import bdtrc
 
     a = (variance - mean) / mean**2
     k = max(1, math.floor(-1 / a))
@@ -149,12 +148,8 @@ def binomials_above(mean: float, variance: float) -> Above:
     p = min(1.0, mean / (k + 1 - q))
 
     def above(numbers: Floats) -> Floats:
-        chances = np.zeros(np.shape(numbers))
-        for share, trials in ((q, k), (1 - q, k + 1)):
-            rest = np.maximum(trials - numbers, 0.0)
-            own = betainc(numbers + 1, np.where(rest > 0, rest, 1.0), p)
-            chances += share * np.where(rest > 0, own, 0.0)
-        return chances
+        fewer, more = np.minimum(numbers, k), np.minimum(numbers, k + 1)
+        return np.asarray(q * bdtrc(fewer, k, p) + (1 - q) * bdtrc(more, k + 1, p))
 
     return above
 

@@ -9,6 +9,7 @@ columns for other periods than those of the record. Columns and rows of totals a
 from __future__ import annotations
 
 import itertools
+import operator
 import re
 from collections.abc import Iterator, Mapping, Sequence
 
@@ -104,11 +105,17 @@ class WideSheet(Sheet):
     def rows(self) -> Iterator[Row]:
         zeros = empty = 0
         for line, cells in self.sheet.rows():
-            if line > self.line:
-                yield from self._rows_of(line, cells)
-                texts = self._texts(cells)
-                zeros += sum(map(is_zero, texts))
-                empty += texts.count("")
+            if line <= self.line:
+                continue
+            own = [*cells, *[""] * (self.width - len(cells))]
+            item = text_of(own[self.fixed[self.columns["item"].place]])
+            yield from self._rows_of(line, own, item, self.text_of(cells))
+            if not WHOLE_TOTAL.fullmatch(item):
+                # What is empty before the first filled cell is the time before the item.
+                texts = [text_of(own[place]) for place in self.order]
+                below = [*itertools.dropwhile(operator.not_, texts)]
+                zeros += sum(map(is_zero, below))
+                empty += below.count("")
         self.hidden = self.sheet.hidden
         if zeros and empty and self.rules.empty is None:
             raise self.refused("zeros and empty cells", zeros=zeros, empty=empty)
@@ -116,27 +123,16 @@ class WideSheet(Sheet):
             self.notes = [note for note in self.notes if note.code != EMPTY_CELLS]
             self.notes.append(Remark(EMPTY_CELLS, {"count": empty}))
 
-    def _texts(self, cells: Sequence[Cell]) -> list[str]:
-        """Returns the texts below periods of the row of an item, from the first filled one on."""
-        cells = [*cells, *[""] * (self.width - len(cells))]
-        if WHOLE_TOTAL.fullmatch(
-            text_of(cells[self.fixed[self.columns["item"].place]])
-        ):
-            return []
-        texts = (text_of(cells[place]) for place in self.order)
-        return [*itertools.dropwhile(lambda text: text == "", texts)]
-
-    def _rows_of(self, line: int, cells: Sequence[Cell]) -> Iterator[Row]:
-        """Yields a row for each filled cell below a period, or for each one if an empty one is unknown; one without a
+    def _rows_of(
+        self, line: int, cells: Sequence[Cell], item: str, text: str
+    ) -> Iterator[Row]:
+        """Yields a row for each filled cell of an item below a period, or for each one if an empty one is unknown; one without a
         quantity for a total, and for a blank row; and one with 0 for an item that has no filled cell.
         """
         if any(map(text_of, cells[self.width :])):
             yield line, [*cells, *[""] * (len(self.heading) + 1 - len(cells))]
             return
-        text = self.text_of(cells)
-        cells = [*cells, *[""] * (self.width - len(cells))]
         fixed = [cells[place] for place in self.fixed]
-        item = text_of(fixed[self.columns["item"].place])
         filled = [place for place in self.days if text_of(cells[place])]
         if self.rules.empty == UNKNOWN and item:
             filled = [*self.days]
