@@ -6,6 +6,7 @@ and the others are empty. What is damaged, or was never computed, is refused. A 
 from __future__ import annotations
 
 import contextlib
+import functools
 import itertools
 import posixpath
 import threading
@@ -18,7 +19,7 @@ from typing import IO
 from xml.etree.ElementTree import Element, XMLPullParser, fromstring
 
 from ..errors import Fault, RefusedFaults
-from ..remarks import Remark
+from ..remarks import Remark, Value
 from .cells import Cell, some_of
 from .number_formats import Format, formats_of, number_of
 from .sources import (
@@ -64,17 +65,17 @@ OLD, LOCKED, LOCKED_BYTES = (
 
 @contextlib.contextmanager
 def parsing(name: str) -> Iterator[None]:
-    """Turns what a library raises over a damaged workbook into Refused."""
-    try:
-        yield
-    except (RefusedFaults, MemoryError):
-        raise
-    except Exception as fault:
-        if isinstance(fault, OSError) and fault.errno:
+    """Turns errors of the file system, and what a library raises over a damaged workbook, into Refused."""
+    with readable(name):
+        try:
+            yield
+        except (RefusedFaults, MemoryError):
             raise
-        raise refused(
-            "no workbook", name, fault=str(fault) or type(fault).__name__
-        ) from fault
+        except Exception as fault:
+            if isinstance(fault, OSError) and fault.errno:
+                raise
+            said = str(fault) or type(fault).__name__
+            raise refused("no workbook", name, fault=said) from fault
 
 
 def drain(file: IO[bytes]) -> None:
@@ -163,7 +164,7 @@ _books = weakref.WeakValueDictionary[tuple[Path, int, int], Book]()
 class BookSheet(Sheet):
     """A sheet of a workbook."""
 
-    unsent = ("book", "known")
+    unsent = ("book", "known", "places")
 
     def __init__(
         self, path: Path, sheet: str | None, rules: Rules, title: str, book: Book
@@ -175,17 +176,18 @@ class BookSheet(Sheet):
         self.book_path = path
         self.part = book.parts[title]
         self.book = book
-        self.known: dict[tuple[str, str, str], Cell] = {}
-        self.places: dict[str, int] = {}
+        value = functools.partial(value_of, book.formats)
+        self.known = functools.lru_cache(MOST_KNOWN)(value)
+        self.places = functools.cache(place_of)
 
     def rows(self) -> Iterator[Row]:
         """Yields the numbers of rows, with their cells, without empty ones at the end of a row or the sheet. Raises
         RefusedFaults if the sheet is damaged, and for formulas of used columns that were never computed.
         """
         self.hidden = 0
-        self.uncomputed = list[tuple[int, int, str]]()
+        self.uncomputed = list[Fault]()
         most = HEAD_BYTES if self.is_sample else MOST_BYTES
-        with readable(self.name), self.unchanged(), parsing(self.name):
+        with self.unchanged(), parsing(self.name):
             line = 0
             for number, cells in self._stored_rows(most):
                 if cells:
@@ -193,12 +195,7 @@ class BookSheet(Sheet):
                     line = number
                     yield line, cells
         if self.uncomputed:
-            raise RefusedFaults(
-                [
-                    self._uncomputed_fault(*place)
-                    for place in self.uncomputed[:MOST_LISTED]
-                ]
-            )
+            raise RefusedFaults(self.uncomputed)
 
     def head(self, wanted: Set[str], role_of: RoleOf) -> list[TextRow]:
         is_sample, self.is_sample = self.is_sample, True
@@ -259,11 +256,7 @@ class BookSheet(Sheet):
         if not name:
             return least
         letters = name.rstrip(DIGITS)
-        place = self.places.get(letters, -1)
-        if place < 0:
-            from openpyxl.utils import column_index_from_string
-
-            place = self.places[letters] = column_index_from_string(letters) - 1
+        place = self.places(letters)
         if place < least or name[len(letters) :] != str(line):
             raise refused("place of a cell", self.name, line, least + 1, cell=name)
         return place
@@ -281,31 +274,7 @@ class BookSheet(Sheet):
         if kind == "inlineStr":
             inline = element.find(INLINE)
             return None if inline is None else text_in(inline)
-        key = kind, element.get("s", "0"), text
-        if key not in self.known:
-            if len(self.known) >= MOST_KNOWN:
-                self.known.clear()
-            self.known[key] = self._value(*key)
-        return self.known[key]
-
-    def _value(self, kind: str, style: str, text: str) -> Cell:
-        """Returns the value of a cell by the kind of its text."""
-        if kind == "n" and text:
-            number = number_of(text)
-            return (
-                number
-                if isinstance(number, str)
-                else self.book.formats[int(style)].cell(number)
-            )
-        if kind == "b" and text:
-            return "FALSE" if text == "0" else "TRUE"
-        if kind == "d" and text:
-            from openpyxl.utils.datetime import from_ISO8601
-
-            value = from_ISO8601(text)
-            day: Cell = value.date() if hasattr(value, "date") else value
-            return day if hasattr(day, "year") else text
-        return text or None
+        return self.known(kind, element.get("s", "0"), text)
 
     def _note_formula(
         self, line: int, place: int, element: Element, kind: str, text: str
@@ -317,15 +286,35 @@ class BookSheet(Sheet):
         )
         if formula is None or is_computed or place not in self.used:
             return
-        self.uncomputed.append((line, place, f"={formula.text or '..'}"))
+        if len(self.uncomputed) < MOST_LISTED:
+            facts: dict[str, Value] = {"formula": f"={formula.text or '..'}"}
+            remark = Remark("no value of a formula", facts)
+            self.uncomputed.append(Fault(remark, self.name, line, place + 1))
 
-    def _uncomputed_fault(self, line: int, place: int, formula: str) -> Fault:
-        return Fault(
-            Remark("no value of a formula", {"formula": formula}),
-            self.name,
-            line,
-            place + 1,
-        )
+
+def value_of(formats: Sequence[Format], kind: str, style: str, text: str) -> Cell:
+    """Returns what the reader of a cell sees, by the kind of its text and the number of its style."""
+    if kind == "n" and text:
+        number = number_of(text)
+        if isinstance(number, str):
+            return number
+        return formats[int(style)].cell(number)
+    if kind == "b" and text:
+        return "FALSE" if text == "0" else "TRUE"
+    if kind == "d" and text:
+        from openpyxl.utils.datetime import from_ISO8601
+
+        value = from_ISO8601(text)
+        day: Cell = value.date() if hasattr(value, "date") else value
+        return day if hasattr(day, "year") else text
+    return text or None
+
+
+def place_of(letters: str) -> int:
+    """Returns the place from 0 of a column by its name, as C."""
+    from openpyxl.utils import column_index_from_string
+
+    return int(column_index_from_string(letters)) - 1
 
 
 def check_container(path: Path) -> None:
@@ -336,7 +325,7 @@ def check_container(path: Path) -> None:
         if first == OLD:
             is_locked = LOCKED in file.read(LOCKED_BYTES)
             raise refused("locked workbook" if is_locked else "old workbook", name)
-    with readable(name), parsing(name), zipfile.ZipFile(path) as archive:
+    with parsing(name), zipfile.ZipFile(path) as archive:
         parts = archive.infolist()
     size = sum(part.file_size for part in parts)
     if size > MOST_BYTES:
@@ -349,7 +338,7 @@ def book_of(path: Path) -> Book:
     book = _books.get(key)
     if book is None:
         check_container(path)
-        with readable(str(path)), parsing(str(path)):
+        with parsing(str(path)):
             book = _books[key] = read_book(path)
     return book
 
