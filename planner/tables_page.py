@@ -6,7 +6,7 @@ from pathlib import Path
 
 from crnplan.crnsim import report, trajectory
 from crnplan.curve import exchange_curve
-from crnplan.decide import doubt, long_run, verdicts
+from crnplan.decide import doubt, verdicts
 from crnplan.show import (
     backtest_tables,
     calendars,
@@ -119,12 +119,12 @@ TABLES: Mapping[str, tuple[str, Sequence[Column]]] = {
         f"{AS_ORDERS}",
         more(ON_A_DAY["at_risk"]),
     ),
-    "PlannedItem.compare": (
-        "The policies of an item, in Python, the cheapest first.",
-        item_page.POLICY_COLUMNS,
+    "PlannedItem.compare, crnplan suggest": (
+        "The policies of an item, in Python, the cheapest first; and those that are suggested, with the figures of theory.",
+        suggestions.COLUMNS,
     ),
     "PlannedItem.doubt": (
-        "Policies under the laws that a history allows. A column stands if there is a figure.",
+        "Policies under the laws that a history allows.",
         doubt.COLUMNS,
     ),
     "PlannedItem.moves": ("How the best policy of an item moves.", what_ifs.COLUMNS),
@@ -133,20 +133,11 @@ TABLES: Mapping[str, tuple[str, Sequence[Column]]] = {
         trajectory.COLUMNS,
     ),
     "The laws of an item": ("On its page.", item_page.LAW_COLUMNS),
-    "crnplan suggest": (
-        "Suggested policies.",
-        suggestions.COLUMNS,
-    ),
     "crnplan run --out": ("A report of crnsim, exactly.", report.COLUMNS),
-    "crnplan run": (
-        "Policies beside the base, over the coming periods.",
+    "crnplan run, Scenario.long_run": (
+        "Policies beside the base, the cheapest first. In the long run differences are of a period.",
         verdicts.COLUMNS,
     ),
-    "crnplan run --long-run": (
-        "Policies beside the base, in the long run.",
-        verdicts.LONG_RUN_COLUMNS,
-    ),
-    "Scenario.long_run": ("Figures of the long run, in Python.", long_run.COLUMNS),
 }
 
 

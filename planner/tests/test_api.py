@@ -344,7 +344,8 @@ def test_items_and_curve_of_a_plan(
     for policy in ("today", "chosen"):
         assert frame.loc[policy, "cost"] == row[f"cost_{policy}"]
         assert frame.loc[policy, "s"] == row[f"s_{policy}"]
-    assert frame.loc["chosen", "run_difference"] == -row.run_saving
+    run_saving = frame.run_cost["today"] - frame.run_cost["chosen"]
+    assert run_saving == pytest.approx(row.run_saving)
     assert "<html" in plan.item("K-102").page
     drawn = Mock()
     monkeypatch.setattr("crnplan.crnsim.pictures.trajectories_picture", drawn)

@@ -364,7 +364,7 @@ def test_commands(
     assert lines[3].startswith("low,1,2,")
     answer = crnplan("run", path, "--program", program, "--json")
     rows = json.loads(answer.output)["policies"]
-    assert [(it["policy"], it["diff_mean"], it["low"]) for it in rows] == [
+    assert [(it["policy"], it["diff"], it["low"]) for it in rows] == [
         ("A", 0.0, None),
         ("B", 74.0, None),
     ]

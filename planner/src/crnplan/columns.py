@@ -39,7 +39,8 @@ def _column(
 ) -> Column:
     """Returns a declared column with words in place of those in braces."""
     form, path, meaning = whole_entry(package, entry)
-    traits: dict[str, Any] = {"unit": ""} | declared("columns.toml")[form]
+    named = declared("columns.toml")[form.format(**words)]
+    traits: dict[str, Any] = {"unit": ""} | named
     column = Column(name.format(**words), meaning=meaning.format(**words), **traits)
     return column.by(path.format(**words) if path else cells[name])
 

@@ -192,7 +192,7 @@ def test_warns_of_end_effects_as_counted(
     for words, place in ((["--csv"], 2), ([], 1)):
         shown = crnplan("run", "priced.csv", "--scenario", "priced.toml", *words)
         assert (
-            f"By this alone diff_mean is from about {unit * min(effects):,.0f} ("
+            f"By this alone diff is from about {unit * min(effects):,.0f} ("
             in shown[place]
         )
         assert "WARNING" not in shown[3 - place]

@@ -33,29 +33,19 @@ def by_hand(part: crn.Scenario) -> Doubt:
     fill = np.array(
         [[0.95, 0.9], [0.96, 0.91], [0.97, 0.92], [0.98, 0.93], [0.99, 0.94]]
     )
-    least = np.array([100.0, 80, 100, 100, 100])
-    return Doubt(
-        part.policies, LawFigures((0, 1, 2, 3, 4), cost, fill, least, 3, 0.002)
-    )
+    return Doubt(part.policies, LawFigures((0, 1, 2, 3, 4), cost, fill, 3, 0.002))
 
 
 def test_columns(by_hand: Doubt) -> None:
-    """Regrets by hand are 0, 10, 0, 10, 0 and 2, 0, 0, 0, 25 percent, of all policies 0, 37.5, 0, 21, 0 and so on."""
+    """Regrets by hand are 0, 10, 0, 10, 0 and 2, 0, 0, 0, 25 percent."""
     assert list(by_hand.frame.index) == ["today", "low"]
     table = by_hand.table.records
     for row, wanted in zip(table, CASES["rows"], strict=True):
         assert {name: row[name] for name in wanted} == pytest.approx(wanted)
     assert [*by_hand.frame] == [*list(table[0])[1:]]
     assert (
-        "\ntoday   15  40  106.20   4.00%     10.00%     60%      60%" in by_hand.text
+        "\ntoday   15  40  106.20   4.00%     10.00%     60%  97.00%" in by_hand.text
     )
-    rounded = by_hand.figures.cost.min(axis=1) * (1 + 1e-12)
-    figures = dataclasses.replace(by_hand.figures, least=rounded)
-    assert min(it["own_regret"] for it in Doubt(by_hand.policies, figures).rows) >= 0
-    figures = dataclasses.replace(by_hand.figures, least=np.full(5, np.nan))
-    unknown = Doubt(by_hand.policies, figures)
-    assert not any(name.startswith("own") for name in unknown.columns)
-    assert not any(name.startswith("own") for name in unknown.frame)
 
 
 def test_figures_are_those_of_each_law(part: crn.Scenario) -> None:
@@ -82,7 +72,6 @@ def test_figures_are_those_of_each_law(part: crn.Scenario) -> None:
         assert rows[policy.name]["fill"] == pytest.approx(fills[:, at].mean(), rel=1e-6)
         regret = costs[:, at] / costs.min(axis=1) - 1
         assert rows[policy.name]["regret"] == pytest.approx(regret.mean(), abs=1e-6)
-    assert min(row["own_regret"] - row["regret"] for row in rows.values()) >= 0
     back = part.changed(returns={0: 1, 6: 1})
     demands = allowed_laws(HISTORY, times=30)
     some = figures_of_laws(back, [(it, part.lead) for it in demands], part.policies)

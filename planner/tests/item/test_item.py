@@ -90,9 +90,7 @@ def test_laws_that_the_history_allows(alone: Alone, counts: list[int]) -> None:
     rows = its.doubt().frame
     for name in ("today", "chosen"):
         assert rows.cost[name] == pytest.approx(found.cost[name], rel=0.05)
-    assert (rows.regret <= rows.own_regret + 1e-9).all()
     assert (rows.fill_10 <= rows.fill).all()
-    assert rows.is_best.sum() >= 1 - 1e-9  # One is the best under each law, or several.
     said = spoken(its.text)
     assert f"of these {len(names)} policies under " in said
     assert (

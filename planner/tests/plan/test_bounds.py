@@ -354,8 +354,8 @@ def test_an_earlier_policy_out_of_bounds_does_not_stay(program: Path) -> None:
 
 
 def test_deeper_looks_respect_the_bounds(program: Path) -> None:
-    """All suggested policies but today's are within the bounds, and so is the best of each case, the decision without
-    the largest periods, and the best of each law, beside which nothing is cheaper."""
+    """All suggested policies but today's are within the bounds, and so is the best of each case, and the decision without
+    the largest periods."""
     question = asked(Bounds(3, 20, 3, Fraction(30)), counts=(*SEEN, 40), **DEAR)
     depth = Depth(question, plan_one(question, str(program)), str(program), laws=4)
     feasible = question.theory.feasible
@@ -371,14 +371,6 @@ def test_deeper_looks_respect_the_bounds(program: Path) -> None:
     assert depth.without
     rare = depth.without.rare
     assert rare.level - rare.point >= 19
-    free = asked(counts=question.item.counts, **DEAR)
-    doubts = [
-        depth.doubt,
-        Depth(free, plan_one(free, str(program)), str(program), laws=4).doubt,
-    ]
-    least, least_free = (doubt.figures.least for doubt in doubts if doubt)
-    assert (least >= least_free).all()
-    assert (least > 1.001 * least_free).any()
 
 
 def test_bounds_of_a_catalogue(crnplan: Command, tmp_path: Path, program: Path) -> None:

@@ -17,7 +17,6 @@ from crnplan.theory.many_laws import (
     Promises,
     compute_shortfalls,
     figures_of_laws,
-    least_costs,
 )
 from crnplan.theory.suggestions import (
     FILLS,
@@ -47,23 +46,6 @@ def figures(
     return figures_of_laws(scenario, [(scenario.demand, scenario.lead)], policies)
 
 
-@pytest.mark.parametrize("lead", [[4], {1: 2, 2: 3, 5: 1}, {6: 1, 9: 3}], ids=str)
-@pytest.mark.parametrize("demand", [WIDE, SKEWED], ids=["wide", "skewed"])
-@pytest.mark.parametrize("step", [1, 3])
-@pytest.mark.parametrize(
-    "rates", [(1, 9), (9, 1)], ids=["backlog", "holding"]
-)  # With high holding costs, s is 0.
-def test_the_least_cost_is_that_of_the_best(
-    demand: Weights, lead: Weights, step: int, rates: tuple[int, int]
-) -> None:
-    """Also on a lattice that is not exact."""
-    scenario = scenario_of(demand, lead, costs=crn.Costs(90, 1, *rates))
-    shape = shape_of(scenario)
-    theory = theory_on(scenario, shape, step, step == 1)
-    (least,) = least_costs([(theory, int(2 * shape.order) // step)])
-    assert least == pytest.approx(theory.best().cost, rel=1e-3)
-
-
 def test_coarse_lattice(monkeypatch: pytest.MonkeyPatch) -> None:
     """If cells are few, steps are coarser, and what they are off by is said."""
     scenario = scenario_of(WIDE, {1: 2, 2: 3, 5: 1}, costs=crn.Costs(900, 1, 1, 9))
@@ -80,7 +62,7 @@ def test_coarse_lattice(monkeypatch: pytest.MonkeyPatch) -> None:
 
 
 def test_laws_in_order() -> None:
-    """Each law has a row, but for one without a long run. Long and varied lead times have no best policy."""
+    """Each law has a row, but for one without a long run."""
     one = table([1])
     pairs = [
         (table([0, 2]), one),
@@ -90,7 +72,7 @@ def test_laws_in_order() -> None:
     scenario = scenario_of([0, 2], [1], [0, 1])
     found = figures_of_laws(scenario, pairs, POLICIES)
     assert found.laws == (0, 2)
-    assert found.cost.shape == found.fill.shape == (2, 4) and found.least.shape == (2,)
+    assert found.cost.shape == found.fill.shape == (2, 4)
     for costs, place in zip(found.cost, found.laws):
         demand, lead = pairs[place]
         for cost, policy in zip(costs, POLICIES):
@@ -100,8 +82,6 @@ def test_laws_in_order() -> None:
         figures_of_laws(scenario, pairs[1:2], POLICIES)
     with pytest.raises(NoTheory, match="holding"):
         figures(scenario_of([0, 1], costs=crn.Costs(1, 1, 0, 1)))
-    assert np.isnan(figures(scenario_of([0, 1], [1, 13])).least).all()
-    assert not np.isnan(figures(scenario_of([0, 1], [13])).least).any()
 
 
 def laws_near(weights: Weights, count: int, seed: int) -> list[crn.Law]:
@@ -132,7 +112,6 @@ def test_shortfalls_of_many_laws() -> None:
     found = figures_of_laws(dear, laws, POLICIES, made=made)
     alone = figures_of_laws(dear, laws, POLICIES)
     assert found.cost == pytest.approx(alone.cost)
-    assert found.least == pytest.approx(alone.least)
     coarse = {0: theory_on(own[0], shape_of(own[0]), 2, False)}
     other = figures_of_laws(dear, laws[:1], POLICIES, made=coarse)
     assert other.cost == pytest.approx(alone.cost[:1], rel=1e-12)

@@ -130,27 +130,6 @@ def test_few_feasible_pairs_on_a_coarse_lattice(
         assert found.cost < math.inf and feasible.allows(found.point, found.level)
 
 
-@pytest.mark.parametrize(
-    "feasible",
-    [
-        Feasible(),
-        Feasible(3),
-        Feasible(0, 2, 7),
-        Feasible(most_gap=2),
-    ],
-    ids=str,
-)
-def test_the_best_of_other_laws_is_feasible(feasible: Feasible) -> None:
-    """Under each law a policy is compared with the cheapest feasible pair of that law."""
-    laws, least = [], []
-    for weight in (1, 9):
-        scenario = scenario_of({0: weight, 1: 3, 4: 1}, [2], costs=Costs(9, 0, 2, 11))
-        laws.append((scenario.demand, scenario.lead))
-        least.append(kept_of(all_pairs(scenario, 20), feasible).cost.min())
-    found = figures_of_laws(scenario, laws, [Policy("a", 2, 6)], feasible)
-    assert found.least == pytest.approx(least, rel=1e-9)
-
-
 @EACH_LEAD
 @pytest.mark.parametrize(
     "feasible",

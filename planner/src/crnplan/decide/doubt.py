@@ -14,7 +14,6 @@ from typing import TYPE_CHECKING, Any
 from ..columns import columns_of
 from ..policies import Policy
 from ..table import DataTable, Result
-from .verdicts import POLICY
 
 if TYPE_CHECKING:
     from ..chances import Floats
@@ -22,7 +21,6 @@ if TYPE_CHECKING:
 
 WITHIN = 0.03  # as near as that to the best is near
 MOST = 0.9  # of the laws, under which a regret stays within its bound, and a fill rate above its own
-TIE = 1 + 1e-9  # Costs whose ratio is at most this are equal but for rounding.
 COLUMNS = columns_of("decide", "doubt")
 
 
@@ -33,30 +31,21 @@ class Doubt(Result):
     policies: tuple[Policy, ...]
     figures: LawFigures
 
-    def _regrets(self, least: Floats) -> Floats:
-        """Returns the regret of each policy (column) under each law (row), whose best policy costs so little."""
-        regrets: Floats = (self.figures.cost / least[:, None] - 1).clip(min=0.0)
-        return regrets
-
     @cached_property
     def columns(self) -> dict[str, Floats]:
         """Returns the columns of the table with a figure for each policy."""
         import numpy as np
 
         cost, fill = self.figures.cost, self.figures.fill
-        among, of_all = self._regrets(cost.min(axis=1)), self._regrets(
-            self.figures.least
-        )
-        columns = {"cost": cost.mean(axis=0)}
-        for name, regrets in (("", among), ("own_", of_all)):
-            if not np.isnan(regrets).any():
-                columns[f"{name}regret"] = regrets.mean(axis=0)
-                columns[f"{name}regret_90"] = np.quantile(regrets, MOST, axis=0)
-                columns[f"{name}within"] = (regrets <= WITHIN).mean(axis=0)
-        columns["is_best"] = (1 + among <= TIE).mean(axis=0)
-        columns["fill"] = fill.mean(axis=0)
-        columns["fill_10"] = np.quantile(fill, 1 - MOST, axis=0)
-        return columns
+        regrets = cost / cost.min(axis=1, keepdims=True) - 1
+        return {
+            "cost": cost.mean(axis=0),
+            "regret": regrets.mean(axis=0),
+            "regret_90": np.quantile(regrets, MOST, axis=0),
+            "within": (regrets <= WITHIN).mean(axis=0),
+            "fill": fill.mean(axis=0),
+            "fill_10": np.quantile(fill, 1 - MOST, axis=0),
+        }
 
     @cached_property
     def rows(self) -> list[dict[str, Any]]:
@@ -71,6 +60,4 @@ class Doubt(Result):
     @property
     def table(self) -> DataTable:
         """Returns the figures indexed by `policy`, the cheapest first."""
-        known = {column.name for column in POLICY} | self.columns.keys()
-        columns = [column for column in COLUMNS if column.name in known]
-        return DataTable.of(columns, self.rows, index="policy")
+        return DataTable.of(COLUMNS, self.rows, index="policy")

@@ -17,7 +17,6 @@ from pathlib import Path
 
 from .. import formats
 from ..read.judging import judged
-from ..columns import columns_of
 from ..crnsim.report import Row, rows_of_run
 from ..errors import Refused, argument
 from ..remarks import Remark, Value
@@ -47,7 +46,6 @@ MOST_EFFECT = 0.25
 CHANCE_OF_ALARM = 0.001
 KEYS = 48
 LEAST_KEYS, MOST_KEYS = 2, formats.MOST_REPLICATIONS
-COLUMNS = columns_of("decide", "long_run_report")
 
 
 @dataclass(frozen=True, eq=False, repr=False)
@@ -136,12 +134,8 @@ class LongRunReport(Result):
 
     @property
     def table(self) -> DataTable:
-        """Returns the figures of a period, indexed by `policy`, the base first."""
-        rows = []
-        for row, estimate in zip(self.rows, self.estimates):
-            variance = float(row.diff_var or 0) / self.scenario.periods**2
-            rows.append({"row": row, "estimate": estimate, "variance": variance})
-        return DataTable.of(COLUMNS, rows, index="policy")
+        """Returns the figures of a period, indexed by `policy`, the cheapest first, with intervals at a level of 0.95."""
+        return self.decide().table
 
     @judged("call")
     def decide(self, level: float = 0.95) -> Decision:
@@ -161,7 +155,7 @@ class LongRunReport(Result):
         percents, theory = list[float | None](), []
         for own, cost, effect in zip(self.estimates, costs, self.effects):
             percents.append(100 * own.difference / base if base else None)
-            theory.append((cost, cost - costs[0], effect))
+            theory.append((cost, effect))
         policies = ranked(
             self.rows, self.estimates, percents, level, self.replications, theory
         )

@@ -26,15 +26,10 @@ from ..words import sentence
 
 Ends = tuple[float, float] | tuple[None, None]
 FEWEST_ORDERS = 2  # of the rarer policy of a comparison, in all replications
-POLICY = columns_of("decide", "policy")
 # The columns over the periods of a report, and those in the long run.
-COLUMNS = columns_of("decide", "coming")
-LONG_RUN_COLUMNS = columns_of("decide", "long_run")
-MAY_LACK = (
-    "theory_cost",
-    "theory_diff",
-    "effect",
-)  # columns that stand if some policy has a figure
+COLUMNS = columns_of("decide", "compared", span="replication")
+LONG_RUN_COLUMNS = columns_of("decide", "compared", span="period")
+MAY_LACK = "theory_cost", "effect"  # columns that stand if some policy has a figure
 MOST_ROWS = 20
 VERDICTS = {
     "better": "better than {}",
@@ -63,7 +58,6 @@ class Compared:
     high: float | None
     verdict: str
     theory_cost: float | None = None
-    theory_diff: float | None = None
     effect: float | None = None
 
 
@@ -341,7 +335,7 @@ class Decision(Result):
                 f"cost to verdict: a period by crnsim, {sentence(self.runs)}; unit is left out",
                 "low to high: the interval of diff; all hold together at the joint level",
                 f"cost_low to cost_high: the interval of cost, each at {self.level:g} by itself",
-                f"theory_cost, theory_diff: a period of the long run by theory, {theory}"
+                f"theory_cost: a period of the long run by theory, {theory}"
                 if "theory_cost" in names
                 else f"theory is {theory}",
                 *effect * ("effect" in names),
@@ -351,7 +345,7 @@ class Decision(Result):
                 "one replication tells nothing of spread, so there are no intervals"
             ]
         joint = [
-            f"low to high: the interval of diff_mean; all {len(self.rows) - 1} hold together at the joint level"
+            f"low to high: the interval of diff; all {len(self.rows) - 1} hold together at the joint level"
         ]
         return [
             *joint * (len(self.rows) > 1),

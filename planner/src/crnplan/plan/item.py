@@ -52,6 +52,10 @@ class Shown(NamedTuple):
     reasons: tuple[str, ...]
 
     @property
+    def policy(self) -> Policy:
+        return Policy(self.name, *self.figures.levels)
+
+    @property
     def verdict(self) -> str:
         """Returns base, better, worse or undecided."""
         return self.run.verdict
@@ -257,9 +261,8 @@ class Depth:
         # Without a backlog cost it is that by which a newsvendor would meet the wanted share.
         scenario = replace(self.scenario, costs=self.question.for_theory().costs)
         laws = [*zip(demands, leads or repeat(scenario.lead))]
-        feasible, made = self.question.theory.feasible, self.promises.made
         try:
-            figures = figures_of_laws(scenario, laws, policies, feasible, made)
+            figures = figures_of_laws(scenario, laws, policies, self.promises.made)
         except NoTheory:
             return None
         return Doubt(policies, figures)

@@ -9,8 +9,7 @@ from dataclasses import replace
 from functools import cached_property
 from typing import Any, NamedTuple
 
-from ..decide.doubt import WITHIN
-from ..decide.verdicts import POLICY
+from ..decide.doubt import COLUMNS, WITHIN
 from ..demand import EMPIRICAL
 from ..demand.checks import Checks, checks_of
 from ..demand.fitted import Figures as LawFigures, FittedLaw, fit_words
@@ -20,7 +19,8 @@ from ..plan.item import Depth
 from ..plan.question import Question
 from ..read.dates import EVERY, period_name
 from ..policies import Policy
-from ..table import MONEY, DataTable
+from ..table import DataTable
+from ..theory.suggestions import COLUMNS as POLICY_COLUMNS
 from ..words import MONTHS, advised, exactness, sentence
 from .catalogue_tables import DECISION_COLUMNS, DETAIL_COLUMNS, Decision
 from ..columns import columns_of
@@ -47,7 +47,6 @@ class Range(NamedTuple):
     verdict: str = ""
 
 
-POLICY_COLUMNS = columns_of("show", "policies")
 LAW_COLUMNS = columns_of("show", "laws")
 
 
@@ -79,16 +78,11 @@ class ItemWords:
         """Returns what each policy costs and meets under the laws that the history allows, the least mean cost first;
         no policy if none of these laws has a long run."""
         doubt, rows = self.depth.doubt, []
-        if doubt is None:
-            return DataTable(POLICY, [], self.decimals, index="policy")
-        for row in doubt.rows:
+        for row in doubt.rows if doubt else ():
             name, cost = row["policy"].name, self.question.money(row["cost"])
             policy = Policy(name, *self.figures[name].levels)
             rows.append({**row, "policy": policy, "cost": cost})
-        columns = [*doubt.table.columns]
-        place = len(POLICY)
-        columns[place] = replace(columns[place], written=MONEY, shown="")
-        return DataTable.of(columns, rows, self.decimals, index="policy")
+        return DataTable.of(COLUMNS, rows, self.decimals, index="policy")
 
     @cached_property
     def doubted(self) -> dict[str, dict[str, Any]]:
@@ -224,9 +218,7 @@ class ItemWords:
 
 
 def policies_of(words: ItemWords) -> DataTable:
-    rows = list[dict[str, object]]()
-    for policy in words.depth.compared:
-        rows.append({"policy": policy, "reasons": "; ".join(policy.reasons)})
+    rows = words.depth.compared
     return DataTable.of(POLICY_COLUMNS, rows, words.decimals, index="policy")
 
 

@@ -25,9 +25,9 @@ from ..errors import Refused
 from ..law import Law
 from ..policies import Policy
 from ..scenario import ScenarioData
-from .feasible import ALL, Feasible
+from .feasible import ALL
 from .lattice import NoTheory, Shape, finest, shape_of, theory_on
-from .long_run import NO_POLICY, Candidate, LongRun, Sought, place_of_least
+from .long_run import NO_POLICY, Candidate, LongRun
 from .shortfalls import chances_of, demands_of, falling, transforms_of
 from .walk import Walk, room_for
 
@@ -39,8 +39,6 @@ OF_CELL = 50
 OF_PERIOD = 42
 OF_PAIR = 5
 LEAST_ROOM = 512
-LONG_LEAD = 12  # periods: beyond, a law's own best policy is not looked for if there are several lead times
-GAPS = (12, 6, 6)  # that the search for a law's own best policy looks at in each round
 TOGETHER = 8  # laws, whose tables then stay near the processor
 CHECKED = 3  # laws on a coarse lattice that are computed again on one twice as coarse
 
@@ -58,16 +56,14 @@ MOST_LATE_WORK = 60_000  # for late orders with a gap, by `work_of`, in the mean
 class LawFigures:
     """The long run of policies under laws: a row for each law, a column for each policy.
 
-    `cost` is that of a period, without `unit`; `fill` the share of demand met at once; `least` the cost of each law's
-    own best policy, nan if that takes too long. `laws` are the places of the laws that have a long run. The coarsest
-    lattice has steps of `step` items. `error` bounds the relative error of the costs, about; it is None if they are
-    exact but for rounding.
+    `cost` is that of a period, without `unit`; `fill` the share of demand met at once. `laws` are the places of the laws
+    that have a long run. The coarsest lattice has steps of `step` items. `error` bounds the relative error of the costs,
+    about; it is None if they are exact but for rounding.
     """
 
     laws: tuple[int, ...]
     cost: Floats
     fill: Floats
-    least: Floats
     step: int
     error: float | None
 
@@ -89,7 +85,6 @@ def run_of(
     scenario: ScenarioData,
     shape: Shape,
     widest: int,
-    feasible: Feasible = ALL,
     made: LongRun | None = None,
 ) -> LongRun | None:
     """Returns the long run of a scenario on the finest lattice that is computed in time for gaps up to so many items;
@@ -122,7 +117,7 @@ def run_of(
     )
     if step is None:
         return None
-    return theory_on(scenario, shape, step, step == shape.base, feasible, made)
+    return theory_on(scenario, shape, step, step == shape.base, ALL, made)
 
 
 def compute_shortfalls(asked: Iterable[tuple[LongRun, Iterable[int]]]) -> None:
@@ -156,70 +151,18 @@ def keep_shortfalls(pairs: Sequence[tuple[LongRun, list[int]]]) -> None:
         chances = chances[len(gaps) :]
 
 
-class Narrowing:
-    """A search for the least cost of a feasible policy with a gap up to the most, which gets finer round the best gap.
-    `least` is nan if the lattice has no such policy."""
-
-    def __init__(self, theory: LongRun, most: int) -> None:
-        self.theory = theory
-        self.allowed = theory.every_gap(0, most).tolist()
-        self.least = math.nan
-        self.places = list[int]()
-        self.low = 0
-        self.high = len(self.allowed) - 1
-
-    def gaps(self, count: int) -> list[int]:
-        """Returns the gaps that are looked at next, about so many; none if no gap is allowed."""
-        if self.allowed:
-            power = 2 if self.high == len(self.allowed) - 1 else 1
-            places = (
-                self.low + (self.high - self.low) * np.linspace(0, 1, count) ** power
-            )
-            self.places = np.unique(np.rint(places).astype(int)).tolist()
-        return [self.allowed[place] for place in self.places]
-
-    def look(self, gaps: Sequence[int]) -> None:
-        """Looks at these gaps, and goes on between those beside the best."""
-        if not gaps:
-            return
-        _, costs = self.theory.levels_of(np.array(gaps), Sought())
-        best = place_of_least(costs)
-        if costs[best] < math.inf:
-            self.least = float(np.fmin(self.least, costs[best]))
-        self.low = self.places[max(best - 1, 0)]
-        self.high = self.places[min(best + 1, len(gaps) - 1)]
-
-
-def least_costs(asked: Iterable[tuple[LongRun, int]]) -> list[float]:
-    """Returns the least cost of a feasible policy under each of some laws with a gap up to the most: see `Narrowing`."""
-    searches = [Narrowing(theory, most) for theory, most in asked]
-    for count in GAPS:
-        rounds = [(search, search.gaps(count)) for search in searches]
-        compute_shortfalls((search.theory, gaps) for search, gaps in rounds)
-        for search, gaps in rounds:
-            search.look(gaps)
-    return [search.least for search in searches]
-
-
 def costs_of(theory: LongRun, policies: Sequence[Policy]) -> list[float]:
     """Returns the costs of policies."""
     return [theory.figures(policy.s, policy.S).cost for policy in policies]
 
 
 class OwnRun(NamedTuple):
-    """The long run of a law, by its place among all, with its scenario and shape, and the widest gap in items."""
+    """The long run of a law, by its place among all, with its scenario and shape."""
 
     place: int
     scenario: ScenarioData
     shape: Shape
-    widest: int
     theory: LongRun
-
-    @property
-    def most(self) -> int:
-        """Returns the widest gap that a search for the least cost looks at, in cells; -1 if that takes too long."""
-        is_long = self.shape.leads > 1 and self.shape.lead > LONG_LEAD
-        return -1 if is_long else -(-self.widest // self.theory.step) + 1
 
     def error(self, policies: Sequence[Policy]) -> float:
         """Returns how far the costs of policies are at most from those on a lattice twice as coarse, as a share."""
@@ -233,7 +176,6 @@ def own_runs(
     scenario: ScenarioData,
     laws: Sequence[tuple[Law, Law]],
     given: int,
-    feasible: Feasible,
     made: Mapping[int, LongRun],
 ) -> Iterator[OwnRun]:
     """Yields the long run of each law that has one on a lattice, for gaps up to the given one and to wide ones."""
@@ -241,26 +183,25 @@ def own_runs(
         if shape is None:
             continue
         widest = max(given, math.ceil(2 * shape.order))
-        theory = run_of(own, shape, widest, feasible, made.get(place))
+        theory = run_of(own, shape, widest, made.get(place))
         if theory is not None:
-            yield OwnRun(place, own, shape, widest, theory)
+            yield OwnRun(place, own, shape, theory)
 
 
 def figures_of_laws(
     scenario: ScenarioData,
     laws: Sequence[tuple[Law, Law]],
     policies: Sequence[Policy],
-    feasible: Feasible = ALL,
     made: Mapping[int, LongRun] = {},
 ) -> LawFigures:
-    """Returns the figures of policies under laws, each of demand and of lead times; all else is the scenario's. Each
-    law's own best policy is a feasible one. `made` may have long runs under some laws, by their places: see `Promises`.
+    """Returns the figures of policies under laws, each of demand and of lead times; all else is the scenario's. `made`
+    may have long runs under some laws, by their places: see `Promises`.
 
     A lattice is as fine as `MOST_WORK` allows. Raises NoTheory if the scenario has no best policy.
     """
     shape_of(scenario)
     widest = max(policy.S - policy.s for policy in policies)
-    runs = [*own_runs(scenario, laws, widest, feasible, made)]
+    runs = [*own_runs(scenario, laws, widest, made)]
     if not runs:
         raise NoTheory(
             "no law of demand has a long run: as much comes back as is asked for",
@@ -278,7 +219,6 @@ def figures_of_laws(
         tuple(run.place for run in runs),
         table[..., 0] / scale,
         table[..., 1],
-        np.array(least_costs((run.theory, run.most) for run in runs)) / scale,
         max(run.theory.step for run in runs),
         max((run.error(policies) for run in rough[:CHECKED]), default=None),
     )

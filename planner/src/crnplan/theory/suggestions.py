@@ -24,6 +24,7 @@ from ..policies import Policy
 from ..scenario import BY_ITS_LAWS, ScenarioData
 from ..columns import columns_of
 from ..table import DataTable, Json, Result
+from ..toml.documents import read_document
 from ..toml.scenarios import head_of, plain_text
 from ..words import sentence
 from .figures import Figures
@@ -54,11 +55,15 @@ ROUGH = 0.05
 MOST_EXCESS = 0.7
 
 
-def reasons_of(suggestion: Suggestion) -> str:
-    return "; ".join(suggestion.reasons)
+# The figures of suggestions, which are all by theory.
+FIGURES = "policy s S cost fill short stock orders".split()
 
 
-COLUMNS = columns_of("theory", "suggestions", {"reasons": reasons_of})
+def reasons_of(policy: Any) -> str:
+    return "; ".join(policy.reasons)
+
+
+COLUMNS = columns_of("theory", "policies", {"reasons": reasons_of})
 
 
 class Depths:
@@ -175,6 +180,10 @@ class Suggestion:
     figures: Figures
 
     @property
+    def cost(self) -> float:
+        return self.figures.cost
+
+    @property
     def reasons(self) -> tuple[str, ...]:
         """Returns the reasons in words."""
         return tuple(map(sentence, self.remarks))
@@ -182,12 +191,20 @@ class Suggestion:
     def toml(self, scale: Fraction) -> str:
         """Returns the policy as TOML, with its reasons and figures as a comment: one of money counts `scale` there."""
         policy = self.policy
-        cost = self.figures.cost * float(scale)
+        cost = self.cost * float(scale)
         fill = self.figures.fill
         return (
             f"\n# {'; '.join(self.reasons)} (by theory {cost:.2f} a period, fill {fill:.2%})\n[[policy]]\n"
             f'name = "{policy.name}"\ns = {policy.s}\nS = {policy.S}\n'
         )
+
+
+def table_of(
+    rows: Sequence[Suggestion], names: Sequence[str], index: str = ""
+) -> DataTable:
+    """Returns the named figures of policies."""
+    columns = [column for column in COLUMNS if column.name in names]
+    return DataTable.of(columns, rows, index=index)
 
 
 def figures_said(unit: float, step: int, error: float | None) -> list[Remark]:
@@ -228,7 +245,7 @@ class ByTheory(Result):
     @property
     def table(self) -> DataTable:
         """Returns the figures, indexed by `policy`."""
-        return DataTable.of(COLUMNS[:-1], self.rows, index="policy")
+        return table_of(self.rows, FIGURES, index="policy")
 
     @property
     def notes(self) -> str:
@@ -299,13 +316,12 @@ class Suggestions(Result):
     @property
     def table(self) -> DataTable:
         """Returns the figures of all policies, today's first, with the reasons of each."""
-        return DataTable.of(COLUMNS, self.rows)
+        return table_of(self.rows, [*FIGURES, "reasons"])
 
     @property
     def text(self) -> str:
         """Returns the table without the reasons, and the notes."""
-        names = [column.name for column in COLUMNS[:-1]]
-        return self.table.with_columns(names).text + self.notes
+        return self.table.with_columns(FIGURES).text + self.notes
 
     @property
     def tree(self) -> dict[str, Json]:
@@ -336,7 +352,8 @@ class Suggestions(Result):
         The comment at the top stays. All costs are in the program's whole numbers. `initial` writes the proposed start, `unit_zero` an item cost of 0.
         """
         source, scale = self.scenario.toml(), self.scenario.scale
-        tree: dict[str, Any] = {**self.scenario.tree, "policy": []}
+        tree, _ = read_document(source.encode())
+        tree["policy"] = []
         if initial or not self.scenario.has_initial:
             tree["initial"] = self.initial
         if unit_zero:
