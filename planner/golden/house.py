@@ -133,7 +133,7 @@ def suggested(
     found, (theory, _) = suggestions_of(scenario), theories_of(scenario)
     best, laws = theory.best(), (allowed_laws(counts), allowed_leads(leads))
     gap, fills = theory.gap_of(*best.levels), [*FILLS.values()]
-    promises = Promises(scenario, theory, gap, *laws, fills)
+    promises = Promises(scenario, theory, gap, zip(*laws), fills)
     chosen = chosen_policies(scenario, theory, best, promises).policies.values()
     rows = by_theory(scenario, [policy for policy, _ in chosen]).rows
     return crn.Scenario.parse(replace(found, rows=rows).toml())

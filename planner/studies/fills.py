@@ -98,7 +98,11 @@ def chosen(history: Sequence[int], mean: float) -> Iterator[list[Candidate]]:
         theory = theory_of(own)
         plain = theory.best(SHARE)
         promises = Promises(
-            own, theory, theory.gap_of(plain.point, plain.level), laws, (), [SHARE]
+            own,
+            theory,
+            theory.gap_of(plain.point, plain.level),
+            [(law, own.lead) for law in laws],
+            [SHARE],
         )
         policies = [theory_of(by_history).best(SHARE), plain]
         for confidence in CONFIDENCES:

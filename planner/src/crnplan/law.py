@@ -60,7 +60,9 @@ class Law:
         for name in ("values", "weights"):
             numbers = getattr(self, name)
             if type(numbers) is not tuple or {*map(type, numbers)} - {int}:
-                object.__setattr__(self, name, tuple(read_argument(name, numbers, _whole)))
+                object.__setattr__(
+                    self, name, tuple(read_argument(name, numbers, _whole))
+                )
         values, weights = self.values, self.weights
         if not (values or weights):
             return

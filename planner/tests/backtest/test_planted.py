@@ -247,7 +247,7 @@ def test_price_by_brute_force(tmp_path: Path) -> None:
         unmet = [best_unmet(item, times * prices[0]) for item in items[:3]]
         assert bool(np.mean(unmet) <= 0.1 + 1e-9) is is_met
     run = planned_of(
-        Walked(items[1], settings, OWN, Walk(26, 2, 26), {TOGETHER: way}), TOGETHER
+        TOGETHER, Walked(items[1], settings, OWN, Walk(26, 2, 26), {TOGETHER: way})
     )
     assert run and len(run.aims) == 5
     unmet = [1 - fill for _, fill in run.promises[:1]]

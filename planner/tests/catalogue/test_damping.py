@@ -1,7 +1,6 @@
 """Tests which policies stay after an earlier plan though another costs less: by costs of a Markov chain, and law by law."""
 from __future__ import annotations
 
-import itertools
 from collections.abc import Mapping
 from pathlib import Path
 from typing import Any
@@ -92,8 +91,7 @@ def test_a_confidence_is_kept(month: Month, dozen: Mapping[str, Item]) -> None:
             OWN,
         )
         if question.item.fill is not None:
-            demands, leads = allowed_by(question)
-            laws = [*zip(demands, leads or itertools.repeat(question.lead))]
+            laws = allowed_by(question)
             policy = Policy("p", int(row.s_before), int(row.S_before))
             fills = figures_of_laws(question.scenario(), laws, [policy]).fill[:, 0]
             keeps = (

@@ -311,14 +311,12 @@ def kept_under(item: Item, settings: Settings, prior: Prior, answer: Answer) -> 
         question_of(item, settings, prior),
         answer.chosen.level - answer.chosen.point,
     )
-    laws, leads = allowed_by(question)
-    assert (
-        item.fill is not None
-        and len(laws) == 100
-        and len(leads) == 100 * (len(item.leads) > 1)
-    )
+    laws = allowed_by(question)
+    assert item.fill is not None and len(laws) == 100
+    leads = {lead for _, lead in laws}
+    assert (len(leads) > 1) == (len(item.leads) > 1)
     fills = []
-    for law, lead in zip(laws, leads or [question.lead.table] * len(laws)):
+    for law, lead in laws:
         scenario = crn.Scenario.of(
             law, lead, setup=1, holding=1, backlog=1, today=(0, 1)
         )
@@ -344,13 +342,12 @@ def test_allowed_laws_are_round_the_law_of_the_item(prior: Prior) -> None:
     ):
         settings = Settings(borrow=way, seed=seed)
         question = question_of(CATALOGUE[name], settings, prior)
-        laws, leads = allowed_by(question)
-        means[name, way, seed] = float(np.mean([float(it.mean) for it in laws]))
-        assert (
-            means[name, way, seed]
-            == pytest.approx(float(question.demand.table.mean), rel=0.15)
-            and leads == ()
+        laws = allowed_by(question)
+        means[name, way, seed] = float(np.mean([float(it.mean) for it, _ in laws]))
+        assert means[name, way, seed] == pytest.approx(
+            float(question.demand.table.mean), rel=0.15
         )
+        assert {lead for _, lead in laws} == {question.lead.table}
     assert len({*means.values()}) == len(means)
 
 

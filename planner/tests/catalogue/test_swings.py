@@ -405,5 +405,5 @@ def test_figures_are_kept(
     ]
     plain, more, less = (float(row[1].replace(",", "")) for row in rows[1:4])
     assert more > plain > less > 0
-    monkeypatch.setattr(swings, "swing_asked", None)
+    monkeypatch.setattr(swings, "swing_on", None)
     assert Page(crn.report(folder, jobs=1)).source == first.source

@@ -342,6 +342,6 @@ def test_offers_are_kept(
     with monkeypatch.context() as patched, pytest.raises(KeyboardInterrupt):
         patched.setattr(Finding, "price_of", broken_off)
         crn.plan(*files, out=tmp_path / "plan", **words)
-    monkeypatch.setitem(Finding.sums.__globals__, "offer_asked", calls.append)
+    monkeypatch.setitem(Finding.sums.__globals__, "offer_of", calls.append)
     plan = crn.plan(*files, out=tmp_path / "plan", **words)
     assert not calls and groups_of(plan)[REST].items == COUNT - BACKLOG

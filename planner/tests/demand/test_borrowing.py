@@ -279,8 +279,6 @@ def test_seeds_of_drawn_laws(known: Prior) -> None:
     laws = borrowed_laws(known, RARE, times=4)
     assert laws == borrowed_laws(known, RARE, times=4)
     assert laws != borrowed_laws(known, RARE, times=4, seed=2)
-    with pytest.raises(Refused, match="0 is no number of laws; it is at least 1"):
-        borrowed_laws(known, RARE, times=0)
 
 
 def test_drawn_shares(known: Prior) -> None:

@@ -21,6 +21,7 @@ from crnplan.plan.how import NONE, Settings
 from crnplan.plan.question import Levels
 from crnplan.read.item import Item
 from crnplan.theory.long_run import Candidate, LongRun
+from crnplan.store.trees import value_of
 from planner.tests.plan.items import item_of
 
 LEAD, WEEKS, ITEMS, LONG = 2, 20, 60, 500
@@ -63,7 +64,7 @@ def test_classes_by_hand() -> None:
     )
     assert [aims.aim(counts, 0.9) for counts in ((14, 15), (14, 16))] == [0.9, 0.999]
     assert {tried.items for tried in Aims.of(trials[1:-1]).classes} == {28}
-    assert Aims.parse(json.loads(json.dumps(dataclasses.asdict(aims)))) == aims
+    assert value_of(Aims, json.loads(json.dumps(dataclasses.asdict(aims)))) == aims
 
 
 def test_blocks_by_hand() -> None:

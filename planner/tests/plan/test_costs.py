@@ -14,14 +14,15 @@ from crnplan.plan.aims import CostTrial, Overrun, Overruns
 from crnplan.plan.correction import (
     Corrections,
     blocks_of,
-    cost_trial_asked,
     cost_trial_of,
 )
 from crnplan.plan.how import NONE, Settings
+from crnplan.plan.one import or_fault
 from crnplan.plan.question import question_of
 from crnplan.read.item import Item
 from crnplan.read.bounds import Bounds
 from crnplan.remarks import Remark
+from crnplan.store.trees import value_of
 from planner.studies import costs
 
 LEAD, SETUP, HOLDING, BACKLOG = 2, 8, 2, 18
@@ -96,7 +97,7 @@ def test_a_quarter_unlike_the_others_costs_more() -> None:
 def test_what_has_no_trial() -> None:
     """An item without demand has none, and it is said why."""
     nothing = made((0, 0, 0, 0), (0, 0, 0, 0))
-    assert isinstance(cost_trial_asked(nothing, OWN, Prior(NONE)), Remark)
+    assert isinstance(or_fault(nothing, cost_trial_of, OWN, Prior(NONE)), Remark)
 
 
 def test_overrun_by_hand() -> None:
@@ -123,7 +124,8 @@ def test_classes_by_hand() -> None:
         assert overruns.of_item(counts).times == times
     assert [own.times for own in Overruns.of(trials[1:-1]).classes] == [1.5, 1.5]
     assert (
-        Overruns.parse(json.loads(json.dumps(dataclasses.asdict(overruns)))) == overruns
+        value_of(Overruns, json.loads(json.dumps(dataclasses.asdict(overruns))))
+        == overruns
     )
 
 
@@ -131,7 +133,7 @@ def test_what_is_kept_is_read_again() -> None:
     """A kind of which nothing was tried is none."""
     known = Corrections(None, Overruns(1.0, (Overrun(30, 60, 1.5, 0.1),) * 2), None, 30)
     kept = json.loads(json.dumps(dataclasses.asdict(known)))
-    assert Corrections.parse(kept) == known
+    assert value_of(Corrections, kept) == known
     on, remarks = known.settled(Settings(correct=True))
     assert on.overruns == known.overruns and on.aims is None and not remarks
 

@@ -55,8 +55,8 @@ def test_allowed_laws_are_at_the_level() -> None:
     """Laws that a history allows are as many times as large."""
     question, plain = question_of(risen(), settings()), question_of(risen(), alone())
     assert question.level
-    (laws, _), (before, _) = allowed_by(question, 4), allowed_by(plain, 4)
-    assert laws == tuple(law.times(question.level.factor) for law in before)
+    laws, before = ([law for law, _ in allowed_by(it, 4)] for it in (question, plain))
+    assert laws == [law.times(question.level.factor) for law in before]
 
 
 def test_level_and_season() -> None:

@@ -59,7 +59,7 @@ def test_a_new_item(
     assert answer.law.family == "borrowed"
     remark, *others = answer.remarks
     assert (remark.code, remark.facts["periods"], others) == ("new", len(counts), [])
-    shortfalls = [replace(scenario, demand=law) for law in allowed_by(question)[0]]
+    shortfalls = [replace(scenario, demand=law) for law, _ in allowed_by(question)]
     gap = answer.chosen.level - answer.chosen.point
     costs = [
         cost_of(own, shortfall_of(own, gap), answer.chosen.level)
@@ -85,7 +85,7 @@ def test_a_new_item_without_a_backlog_cost(prior: Prior, program: Path) -> None:
     answer = plan_one(question, str(program))
     point, level = answer.chosen.levels
     fills = list[float]()
-    for law in allowed_by(question)[0]:
+    for law, _ in allowed_by(question):
         scenario = replace(question.for_theory(), demand=law)
         shortfall = shortfall_of(scenario, level - point)
         fills += fills_of(scenario, shortfall, np.array([level])).tolist()

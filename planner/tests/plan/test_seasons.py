@@ -22,7 +22,7 @@ from crnplan.plan.choice import allowed_by, choice_of
 from crnplan.plan.correction import trial_of
 from crnplan.demand.learning import Prior
 from crnplan.plan.item import depth_of
-from crnplan.plan.one import plan_asked, plan_one, verdict_of
+from crnplan.plan.one import plan_asked, plan_one
 from crnplan.plan.yearly import Planned, Year
 from crnplan.plan.how import NONE, without_season
 from crnplan.plan.question import Question, question_of
@@ -36,6 +36,7 @@ from crnplan.plan.seasons import (
 from crnplan.read.dates import period_of
 from crnplan.read.item import NEW, Item
 from crnplan.words import sentence
+from crnplan.store.trees import value_of
 from planner.tests.plan.items import alone, item_of
 
 WAVE = tuple((1 + 0.5 * np.sin(2 * math.pi * np.arange(MONTHS) / MONTHS)).tolist())
@@ -182,7 +183,10 @@ def test_classes_whose_items_differ() -> None:
         assert index and seasons.is_own(item, index) is (item.group == "mixed")
         peaks.append(index.values.index(max(index.values)))
     assert peaks == [3, 3, 9, 3] * 6
-    assert Seasons.parse(json.loads(json.dumps(dataclasses.asdict(seasons)))) == seasons
+    assert (
+        value_of(Seasons, json.loads(json.dumps(dataclasses.asdict(seasons))))
+        == seasons
+    )
 
 
 def stepped(marked: Sequence[int], lift: int = 1, **changed: Any) -> list[Item]:
@@ -209,7 +213,7 @@ def test_no_season_is_learned_from_promotions() -> None:
     found = Seasons.of("week", stepped(weeks, 3))
     assert found.classes == clean.classes
     assert found.promoted == {"warm": tuple(FIRST + week for week in weeks)}
-    assert Seasons.parse(json.loads(json.dumps(dataclasses.asdict(found)))) == found
+    assert value_of(Seasons, json.loads(json.dumps(dataclasses.asdict(found)))) == found
 
 
 def test_promotions_in_the_same_week_are_no_season() -> None:
@@ -383,7 +387,7 @@ def test_verdict_of_a_year_by_runs(program: Path) -> None:
     for low, verdict in ((0.1, CHEAPER), (-0.1, UNDECIDED)):
         run = dataclasses.replace(answer.run, low=low, high=9.0)
         year = Year([Planned(question, dataclasses.replace(by_run, run=run))])
-        assert year.verdict(year.answers[0], verdict_of) == verdict
+        assert year.verdict(year.answers[0]) == verdict
 
 
 def test_month_of_a_day(program: Path) -> None:
@@ -405,11 +409,11 @@ def test_confidence_and_doubt() -> None:
     """Laws that a history allows are those of the month too."""
     question = asked()
     assert question.season
-    laws, _ = allowed_by(question, 40)
+    laws = [law for law, _ in allowed_by(question, 40)]
     means = np.mean([float(law.mean) for law in laws])
     assert means == pytest.approx(float(question.demand.mean), rel=0.1)
     turned = question.month(question.season.year[3])
-    laws, _ = allowed_by(turned, 40)
+    laws = [law for law, _ in allowed_by(turned, 40)]
     means = np.mean([float(law.mean) for law in laws])
     assert means == pytest.approx(float(turned.demand.mean), rel=0.1)
 

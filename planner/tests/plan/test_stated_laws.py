@@ -20,8 +20,8 @@ from crnplan.plan.backtest.methods import Walk
 from crnplan.plan.backtest.one import Backtest, backtest_item
 from crnplan.plan.correction import tried_names
 from crnplan.plan.item import Depth
-from crnplan.plan.offers import Asked, Offer, offer_asked, past_asked
-from crnplan.plan.one import plan_one
+from crnplan.plan.offers import Asked, Offer, offer_of, past_of
+from crnplan.plan.one import or_fault, plan_one
 from crnplan.plan.prices import ITEMS, weight_of
 from crnplan.plan.question import question_of
 from crnplan.plan.seasons import Seasons
@@ -152,10 +152,10 @@ def test_together_by_theory_and_on_the_past() -> None:
     settings = alone(together={"": 0.95})
     for counts in ((), (3, 0, 2, 7, 0, 0, 1, 4) * 4):
         item = stated(counts=counts, **words)
-        offer = offer_asked(item, settings, NOTHING, asked)
+        offer = or_fault(item, offer_of, settings, NOTHING, asked)
         assert isinstance(offer, Offer)
         assert offer.asked == pytest.approx(2 * float(LAW.mean))
-        past = past_asked(item, settings, NOTHING, asked)
+        past = or_fault(item, past_of, settings, NOTHING, asked)
         assert isinstance(past, Offer) == bool(counts)
 
 

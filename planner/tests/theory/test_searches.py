@@ -144,7 +144,8 @@ def test_promises_within_bounds(feasible: Feasible, lead: Weights) -> None:
     theory, share = theory_within(scenario, feasible), 0.9
     plain = theory.best(share)
     width = plain.level - plain.point
-    promises = Promises(scenario, theory, width, demands, [], [share], 0.8)
+    laws = [(demand, scenario.lead) for demand in demands]
+    promises = Promises(scenario, theory, width, laws, [share], 0.8)
     found = promises.cheapest(plain, share)
 
     def is_kept(point: int, level: int) -> bool:
@@ -251,7 +252,8 @@ def test_no_policy_within_the_range(monkeypatch: pytest.MonkeyPatch) -> None:
     monkeypatch.setattr(bounds, "MOST_ITEMS", 14)
     scenario = scenario_of([5], [2])
     theory = theory_of(scenario)
-    promises = Promises(scenario, theory, 0, [scenario.demand], [], [0.98])
+    laws = [(scenario.demand, scenario.lead)]
+    promises = Promises(scenario, theory, 0, laws, [0.98])
     assert theory.best(0.98) == NO_POLICY
     assert theory.cheapest_of_gaps([0, 3], 0.98) == NO_POLICY
     assert promises.cheapest(NO_POLICY, 0.98) == NO_POLICY

@@ -82,6 +82,11 @@ class Row:
         )
 
 
+def policies_in(rows: Iterable[Row]) -> list[Policy]:
+    """Returns the policies of a report."""
+    return [Policy(row.policy, row.s, row.S) for row in rows]
+
+
 def csv_of(rows: Iterable[Row], scale: Fraction = Fraction(1)) -> str:
     """Returns rows as the program would write them, in its whole numbers: one of money counts `scale` there."""
     return DataTable.of(COLUMNS, [row.times(scale) for row in rows]).csv
@@ -147,8 +152,7 @@ def rows_of(scenario: ScenarioData, text: str, program: str | Path) -> list[Row]
         rows = read_rows(text, str(program))
     except Refused:
         rows = []
-    policies = [Policy(row.policy, row.s, row.S) for row in rows]
-    if policies != [*scenario.policies]:
+    if policies_in(rows) != [*scenario.policies]:
         raise ProgramError(
             f"{program}: what it writes is no report of the scenario; name crnsim with "
             f"{argument('program')}"

@@ -46,18 +46,17 @@ def stocks_by_run(
 def sampled_sums(
     gathered: Gathered,
     choices: Mapping[str, Choice],
-    sample: Sequence[tuple[int, str]],
+    sample: Sequence[str],
     program: str | Path | None,
 ) -> dict[str, Floats]:
     """Returns for today's policies, the chosen ones and each choice the value of the mean stock of some items: by
     theory, by runs, and the variance of the latter. Raises Refused and ProgramError."""
-    places = [place for place, _ in sample]
     policies = {
-        name: gathered.items.policies(choice, places)
+        name: {its.name: its for its in gathered.items.policies(choice)}
         for name, choice in choices.items()
     }
     sums = {name: np.zeros(3) for name in (TODAY, CHOSEN, *choices)}
-    for _, drawn in sample:
+    for drawn in sample:
         item, answer = gathered.folder.item(drawn)
         price, question = float(item.price or 0), gathered.folder.question(item)
         stocks = dict[str, tuple[Levels, float]]()
@@ -69,7 +68,7 @@ def sampled_sums(
                 figures = question.flat.figures(figures.levels)
             stocks[name] = figures.levels, price * figures.stock
         for name, chosen in policies.items():
-            policy = next(chosen)
+            policy = chosen[drawn]
             stocks[name] = (policy.point, policy.level), policy.value
         counted = stocks_by_run(
             question.flat,
@@ -94,7 +93,7 @@ def confirmed(
     """
     drawn = gathered.items.drawn(gathered.folder.settings.seed, count)
     # crnsim can't run an item that is not reviewed in each period.
-    sample = [pair for pair in drawn if gathered.folder.item(pair[1])[0].review == 1]
+    sample = [name for name in drawn if gathered.folder.item(name)[0].review == 1]
     sums = sampled_sums(gathered, choices, sample, program)
     money = gathered.folder.currency.text
     wide = max(map(len, said.values()))

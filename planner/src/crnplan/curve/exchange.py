@@ -19,6 +19,7 @@ from typing import Any, NamedTuple
 import numpy as np
 
 from ..chances import Floats, Whole
+from ..store.digests import sha256
 from ..theory.levels import NEAR
 from .candidates import PRICES
 from .parts import (
@@ -33,9 +34,9 @@ from .parts import (
     Steps,
     Chosen,
     bounds_of,
-    drawn_of,
     fitting,
     measured,
+    names_of,
     policies_of,
     steps_of,
     stretches_of,
@@ -86,29 +87,19 @@ class Items:
         )
         return Point(value, 1 - int(sums[UNMET]) / self.asked, orders, cost)
 
-    def policies(
-        self, choice: Choice, places: Sequence[int] | None = None
-    ) -> Iterator[Chosen]:
-        """Yields the policies of the items at some rising places, or of all, in a choice."""
+    def policies(self, choice: Choice) -> Iterator[Chosen]:
+        """Yields the policies of all items in a choice."""
         ends = [*self.starts[1:], self.count]
         choices = (
             choice.of_part(start, end - start) for start, end in zip(self.starts, ends)
         )
-        some = (
-            None
-            if places is None
-            else np.array([it - start for it in places if start <= it < end], int)
-            for start, end in zip(self.starts, ends)
-        )
-        return itertools.chain.from_iterable(self.over(policies_of, choices, some))
+        return itertools.chain.from_iterable(self.over(policies_of, choices))
 
-    def drawn(self, seed: str, count: int) -> list[tuple[int, str]]:
-        """Returns the places and names of so many items, or of all if there are fewer, drawn as at random: the same in
-        each run."""
-        drawn = itertools.chain.from_iterable(
-            self.over(drawn_of, self.starts, *always(seed, count))
-        )
-        return sorted((place, name) for _, place, name in heapq.nsmallest(count, drawn))
+    def drawn(self, seed: str, count: int) -> list[str]:
+        """Returns the names of so many items, or of all if there are fewer, drawn as at random: the same in each run."""
+        names = itertools.chain.from_iterable(self.over(names_of))
+        digests = ((sha256(f"{seed}\nconfirm\n{name}"), name) for name in names)
+        return sorted(name for _, name in heapq.nsmallest(count, digests))
 
     def ladder(self, dearer: Dearer = AS_IS) -> Ladder:
         """Returns the steps from the least service to the most, perhaps with dearer orders or stock."""

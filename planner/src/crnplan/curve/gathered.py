@@ -57,12 +57,6 @@ class OnCurve:
     candidates: Candidates
 
 
-def on_curve_asked(asked: tuple[Item, Answer], settings: Settings) -> OnCurve | Remark:
-    """Returns an item on the curve, or why it can't be there."""
-    item, answer = asked
-    return or_fault(item, on_curve, answer, settings)
-
-
 def on_curve(item: Item, answer: Answer, settings: Settings) -> OnCurve:
     """Returns an item on the curve. Raises Refused if it has no theory."""
     candidates = candidates_of(terms_of(item, answer.laws, settings))
@@ -120,7 +114,7 @@ class Held:
 def whole_part(folder: Path, names: Names) -> Part:
     """Returns the part of some items, with their candidates. Raises Damaged."""
     items = list[tuple[str, float, Candidates, Floats]]()
-    with contextlib.closing(Store(folder / CANDIDATES, OnCurve, is_known=True)) as kept:
+    with Store(folder / CANDIDATES, OnCurve, is_known=True) as kept:
         for name, _, answer in kept.answers(names.first, names.last):
             if isinstance(answer, OnCurve):
                 items.append(
@@ -148,9 +142,7 @@ class KeptPart(Part):
     def _held(self, dearer: Dearer) -> Held:
         """Returns what is kept of the part at some costs. If there is nothing, it is made and kept."""
         name, digest = held_as(self._part, dearer)
-        with contextlib.closing(
-            Store(self._folder / HULLS, Held, is_known=True)
-        ) as kept:
+        with Store(self._folder / HULLS, Held, is_known=True) as kept:
             held = kept.found(name, digest)
             if not isinstance(held, Held):
                 part = self._whole
@@ -212,9 +204,7 @@ class Parts:
 
     def left_out(self) -> Iterator[tuple[str, Remark]]:
         """Yields the items that are left out, and why, in order."""
-        with contextlib.closing(
-            Store(self.folder / CANDIDATES, OnCurve, is_known=True)
-        ) as kept:
+        with Store(self.folder / CANDIDATES, OnCurve, is_known=True) as kept:
             for name, fault, _ in kept.cells("fault"):
                 if fault:
                     yield name, fault
@@ -240,15 +230,15 @@ def gather(own: Folder, folder: PlannedFolder, means: Means) -> Iterator[Gathere
     """Computes the candidates of a planned folder that are not kept yet, and gives all. Raises Refused if no item can
     be on the curve."""
     with (
-        contextlib.closing(Store(own.store(CANDIDATES), OnCurve)) as kept,
-        contextlib.closing(Store(own.store(HULLS), Held)) as hulls,
+        Store(own.store(CANDIDATES), OnCurve) as kept,
+        Store(own.store(HULLS), Held) as hulls,
     ):
         work = Work(
             kept,
             lambda: questions_of(folder),
             lambda name: asked_of(folder, name),
-            on_curve_asked,
-            (folder.settings,),
+            or_fault,
+            (on_curve, folder.settings),
             load=load_compiler,
         )
         work.finish(means.workers(), shown=means.shown)

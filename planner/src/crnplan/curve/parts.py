@@ -6,7 +6,6 @@ exact, so they are the same for any parts in any order.
 from __future__ import annotations
 
 import functools
-import heapq
 import math
 from collections.abc import Callable, Iterable, Sequence
 from dataclasses import dataclass
@@ -15,7 +14,6 @@ from typing import NamedTuple
 import numpy as np
 
 from ..chances import Floats, Whole
-from ..store.digests import sha256
 from .candidates import DEARER, PRICES, Candidates, lower_hull, slopes, variants_of
 
 # The figures of a period that are added up: the value of the mean stock, that of demand that is not met at once,
@@ -362,33 +360,19 @@ class Chosen(NamedTuple):
     cost: float
 
 
-def policies_of(
-    part: Part, choice: Choice, places: Whole | None = None
-) -> list[Chosen]:
-    """Returns the policies of the items at some places of the part, or of all, in its choice."""
-    if places is not None and not len(places):
-        return []
+def policies_of(part: Part, choice: Choice) -> list[Chosen]:
+    """Returns the policies of the items of the part in its choice."""
     hulls = part.hulls(choice.dearer)
     steps = hulls.before(choice.price, choice.owner + 1)
     taken = np.bincount(hulls.owner[:steps], minlength=len(part.names))
     taken[choice.moved[0]] += choice.moved[1]
-    some = np.arange(len(part.names)) if places is None else places
-    vertices = (hulls.start + taken)[some]
+    vertices = hulls.start + taken
     value, unmet, orders, cost = hulls.figures[:, vertices]
-    fill = 1 - unmet / part.demand[some]
     levels = hulls.point[vertices], hulls.level[vertices]
-    columns = [column.tolist() for column in (*levels, value, fill, orders, cost)]
-    return [*map(Chosen, (part.names[place] for place in some), *columns)]
+    columns = *levels, value, 1 - unmet / part.demand, orders, cost
+    return [*map(Chosen, part.names, *(column.tolist() for column in columns))]
 
 
-def drawn_of(
-    part: Part, start: int, seed: str, count: int
-) -> list[tuple[str, int, str]]:
-    """Returns so many items at most, which are drawn by a digest of the seed and the name: digests, places and names."""
-    return heapq.nsmallest(
-        count,
-        (
-            (sha256(f"{seed}\nconfirm\n{name}"), start + place, name)
-            for place, name in enumerate(part.names)
-        ),
-    )
+def names_of(part: Part) -> tuple[str, ...]:
+    """Returns the names of the items of the part."""
+    return part.names

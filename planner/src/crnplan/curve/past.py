@@ -6,7 +6,6 @@ levels. The price for a wanted share is found as for items that are planned toge
 """
 from __future__ import annotations
 
-import contextlib
 import dataclasses
 import json
 import math
@@ -15,25 +14,22 @@ from typing import NamedTuple
 
 import numpy as np
 
-from ..compiled import load_compiler
 from ..demand.learning import Prior
 from ..errors import Refused, argument
 from ..plan.answer import CHOSEN, TODAY
 from ..plan.choice import best_of, by_prices
-from ..plan.correction import LEAST_ITEMS, in_blocks
+from ..plan.correction import LEAST_ITEMS
 from ..plan.drawn import Draws
-from ..plan.how import Settings, flat_of
-from ..plan.offers import MOST_TAKEN, MOST_TRIED, Offer, met_on_past
-from ..plan.one import or_fault
+from ..plan.how import Settings
+from ..plan.offers import MOST_TAKEN, MOST_TRIED, Offer, met_on_past, tried_with
+from ..plan.one import each_answer
 from ..plan.prices import REST, VALUE, Price
 from ..plan.question import Levels, Question
 from ..plan.together import Finding, settled
 from ..read.item import Item
-from ..remarks import Remark
 from ..store.files import IN_KEPT, Folder
 from ..store.means import Means
 from ..store.stored import Store
-from ..store.work import Work
 from .budget import Budget
 from .candidates import PRICES
 from .gathered import CANDIDATES, Gathered, OnCurve
@@ -85,17 +81,7 @@ def tried_of(
         today = question.levels or chosen.levels
         return [today, chosen.levels, *best_by(question, cases)]
 
-    item, on = flat_of(item, settings)
-    unmet = in_blocks(item, on, prior, planned, pack=item.bounds.pack)
-    weight = float(item.price or 0) / len(item.counts)
-    return Offer(weight * sum(item.counts), tuple((weight * unmet).tolist()))
-
-
-def tried_asked(
-    item: Item, settings: Settings, prior: Prior, cases: Sequence[Case]
-) -> Offer | Remark:
-    """Returns what an item leaves unmet of its record, or why that can't be tried."""
-    return or_fault(item, tried_of, settings, prior, cases)
+    return tried_with(planned, item, settings, prior, VALUE)
 
 
 class OfCurve(Finding):
@@ -156,7 +142,7 @@ class CurvePast:
         """Returns by name what items ask for by theory, in value."""
         sizes = dict[str, float]()
         path = self.gathered.folder.path / CANDIDATES
-        with contextlib.closing(Store(path, OnCurve, is_known=True)) as kept:
+        with Store(path, OnCurve, is_known=True) as kept:
             for name, _, item in kept.answers():
                 if isinstance(item, OnCurve):
                     sizes[name] = item.price * item.candidates.demand
@@ -184,25 +170,18 @@ class CurvePast:
             draws.add(name, size)
         drawn = draws.drawn(total)
         cases = [case_of(choice) for choice in choices.values()]
-        words = planned.settings, planned.planned.prior, cases
         common = json.dumps([planned.planned.common, cases])
-        tried = dict[str, Offer]()
-        with contextlib.closing(Store(self.folder.store(POINTS), Offer)) as offers:
-            work = Work(
-                offers,
-                lambda: (
-                    (name, planned.read.digest(name, common)) for name in drawn.names
-                ),
+        tried = dict(
+            each_answer(
+                self.folder.store(POINTS),
+                Offer,
+                [(it, planned.read.digest(it, common)) for it in drawn.names].copy,
                 planned.read.item,
-                tried_asked,
-                words,
-                unit="trials",
-                load=load_compiler,
+                (tried_of, planned.settings, planned.planned.prior, cases),
+                "trials",
+                self.means,
             )
-            work.finish(self.means.workers(), shown=self.means.shown)
-            for name, _, offer in offers.answers():
-                if isinstance(offer, Offer):
-                    tried[name] = offer
+        )
         if len(tried) < LEAST_ITEMS:
             raise Refused(
                 f"{len(tried)} items of the curve can be tried on their past, and a correction needs {LEAST_ITEMS}",

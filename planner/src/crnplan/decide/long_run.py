@@ -17,10 +17,9 @@ from pathlib import Path
 
 from .. import formats
 from ..read.judging import judged
-from ..crnsim.report import Row, rows_of_run
+from ..crnsim.report import Row, policies_in, rows_of_run
 from ..errors import Refused, argument
 from ..remarks import Remark, Value
-from ..policies import Policy
 from ..scenario import ScenarioData
 from ..table import DataTable, Result, names_of
 from ..theory.lattice import NoTheory
@@ -35,7 +34,6 @@ from .verdicts import (
     decided,
     estimates_of,
     far_from,
-    horizon_of,
     ranked,
     t_quantile,
 )
@@ -88,7 +86,7 @@ class LongRunReport(Result):
         NoTheory
             If there is no long run.
         """
-        asked = scenario.with_policies(Policy(row.policy, row.s, row.S) for row in rows)
+        asked = scenario.with_policies(policies_in(rows))
         return cls(asked, tuple(rows), replications, start_bias(asked, known))
 
     @property
@@ -298,8 +296,9 @@ def coming_decision(
     decision = decided(given, scenario.replications, level)
     listed = {row.policy for row in decision.listed}
     shown = [row for row in given if row.policy in listed]
+    horizon = {"periods": scenario.periods, "initial": scenario.initial}
     return replace(
         decision,
-        horizon=horizon_of(scenario),
+        horizon=Remark("coming periods", horizon),
         warnings=(*end_warning(scenario, given), *start_warning(shown, scenario)),
     )

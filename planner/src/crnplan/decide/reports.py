@@ -4,7 +4,7 @@ from __future__ import annotations
 from collections.abc import Sequence
 
 from .. import formats
-from ..crnsim.report import Row, pooled, read_rows
+from ..crnsim.report import Row, policies_in, pooled, read_rows
 from ..errors import Refused
 from ..policies import Policy
 from .verdicts import own_variance, periods_of
@@ -49,11 +49,6 @@ def rows_in(data: bytes, name: str, replications: int) -> list[Row]:
         raise Refused(f"{name}: this is no report of crnsim: {fault}") from fault
     check_replications(rows, replications, name)
     return rows
-
-
-def policies_in(rows: Sequence[Row]) -> list[Policy]:
-    """Returns the policies of a report."""
-    return [Policy(row.policy, row.s, row.S) for row in rows]
 
 
 def read_reports(reports: Sequence[tuple[str, bytes]], replications: int) -> list[Row]:

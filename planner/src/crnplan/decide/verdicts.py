@@ -20,7 +20,7 @@ from ..columns import columns_of
 from ..crnsim.report import Row
 from ..errors import Refused, argument
 from ..remarks import Remark
-from ..scenario import BY_ITS_LAWS, ScenarioData
+from ..scenario import BY_ITS_LAWS
 from ..table import DataTable, Json, Result, names_of
 from ..words import sentence
 
@@ -251,18 +251,6 @@ def with_intervals(
     return ranked(rows, estimates, percents, level, replications)
 
 
-def with_verdict(rows: Sequence[Compared], verdict: str) -> list[str]:
-    """Returns the names of the policies that have a verdict."""
-    return [row.policy for row in rows if row.verdict == verdict]
-
-
-def horizon_of(scenario: ScenarioData) -> Remark:
-    """Returns what a report on a scenario is about."""
-    return Remark(
-        "coming periods", {"periods": scenario.periods, "initial": scenario.initial}
-    )
-
-
 @dataclass(frozen=True, eq=False, repr=False)
 class Decision(Result):
     """Policies compared with the base, the cheapest first, at a joint level.
@@ -319,8 +307,8 @@ class Decision(Result):
             *self._column_lines(),
         ]
         for verdict, words in VERDICTS.items():
-            names = names_of(with_verdict(self.rows, verdict), self.most)
-            lines.append(f"{words.format(self.base)}: {names}")
+            names = [row.policy for row in self.rows if row.verdict == verdict]
+            lines.append(f"{words.format(self.base)}: {names_of(names, self.most)}")
         lines += [f"\nWARNING: {sentence(warning)}" for warning in self.warnings]
         return "".join(f"\n{line}" for line in lines) + "\n"
 

@@ -42,7 +42,6 @@ from .learning import NONE, Prior, is_outside
 from .posterior import (
     allowed_laws,
     law_of_chances,
-    random_of,
     round_history,
     stratified,
 )
@@ -269,7 +268,7 @@ def borrowed_laws(
     If the law of the item alone is taken, so is its `allowed_laws`. Arguments are as in `law_of`, and so is what is
     raised; `times` is the number of laws.
     """
-    random = random_of(times, seed)
+    random = np.random.default_rng([seed])
     boxes, sample = sample_of(observed, box, is_new)
     _, parts = looked_at(prior, sample, item_class, box, is_new)
     if not parts:

@@ -222,7 +222,7 @@ def seen_law(numbers: Sequence[int]) -> Law:
 def numbers_of(
     observed: Iterable[Any],
     what: str,
-    wrong: Callable[[int, int], str] = lambda number, most: "",
+    wrong: Callable[[int, int], str],
     may_lack: bool = False,
 ) -> list[int]:
     """Returns the numbers of `placed_numbers`.
@@ -252,7 +252,7 @@ def refused_numbers(faults: Sequence[Fault]) -> RefusedFaults:
 
 
 def placed_numbers(
-    observed: Iterable[Any], what: str, may_lack: bool = False
+    observed: Iterable[Any], what: str, may_lack: bool
 ) -> dict[int, int]:
     """Returns observed whole numbers of any kind, also floats that are whole, by their places from 0. If
     numbers `may_lack`, those that are None or NaN are left out. A Series of pandas by

@@ -59,8 +59,6 @@ def below_0(number: int, most: int) -> str:
 def boxes_of(observed: Iterable[Number], box: int, name: str = "demand") -> list[int]:
     """Returns the demand that is known in boxes of `box` items, rounded up. Raises RefusedFaults with the name and the place
     of each number that is too large for a scenario or below 0."""
-    if box < 1:
-        raise Refused(f"{box} is no number of items in a box; it is at least 1")
 
     def wrong(number: int, most: int) -> str:
         if number <= box * MOST_DEMAND:

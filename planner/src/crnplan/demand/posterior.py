@@ -25,7 +25,6 @@ import numpy as np
 from scipy import special
 
 from ..chances import Floats, cut, in_items, scaled
-from ..errors import Refused
 from ..formats import MOST_WEIGHT
 from ..law import Law
 from .families import fits_of, near_of
@@ -165,15 +164,6 @@ def demand_laws(
     return drawn
 
 
-def random_of(times: int, seed: int, *stream: int) -> np.random.Generator:
-    """Returns the generator of a seed for so many laws. Each stream is independent of the others."""
-    if times < 1:
-        raise Refused(f"{times} is no number of laws; it is at least 1")
-    if seed < 0:
-        raise Refused(f"{seed} is no seed; it is at least 0")
-    return np.random.default_rng([seed, *stream])
-
-
 def law_of_chances(chances: Floats, most: int) -> Law:
     """Returns the law of chances. If it has no demand, one unit of its weight goes to the largest demand seen."""
     law = Law.of_chances(chances)
@@ -194,7 +184,7 @@ def allowed_laws(
     largest one seen (`end_of`: 9 times after 2 demands, 4 after 12, 2 after 172), those above 10,000 count as 10,000,
     and what is less likely than 1 in 131,072 is left out. A law has at least one demand above 0, if the history has.
     """
-    random = random_of(times, seed, 0)
+    random = np.random.default_rng([seed, 0])
     sample = Sample.of(boxes_of(observed, box, name))
     laws = demand_laws(sample, times, random)
     return tuple(law_of_chances(law, sample.most) for law in laws)
@@ -209,7 +199,7 @@ def allowed_leads(
     times are blurred: how much is drawn too. A single lead time is what a supplier says, and stays as it is. Raises
     RefusedFaults.
     """
-    random = random_of(times, seed, 1)
+    random = np.random.default_rng([seed, 1])
     numbers = leads_of(observed)
     if len(numbers) < LEAST_LEADS:
         return (Law(tuple(numbers), (MOST_WEIGHT,)),) * times

@@ -16,7 +16,7 @@ import threading
 from collections.abc import Iterable, Iterator, Mapping, Sequence
 from dataclasses import asdict, dataclass, field, replace
 from pathlib import Path
-from typing import IO, Any
+from typing import IO, Any, cast
 
 from ..catalogues import Catalogue
 from ..errors import Refused
@@ -26,6 +26,7 @@ from ..read.cells import plain_name
 from ..read.opening import copy_of
 from ..read.sources import DELIMITERS
 from ..store.files import IN_KEPT, Folder, new_bytes, put_in_place
+from ..store.trees import value_of
 
 DESK = "desk"  # the kind of the folder
 STATE = f"{IN_KEPT}desk.json"
@@ -153,13 +154,7 @@ class State:
     @classmethod
     def parse(cls, text: str) -> State:
         """Returns the state that a text has."""
-        tree = json.loads(text)
-        tree["files"] = [Dropped(**file) for file in tree["files"]]
-        tree["placed"] = [Placed(**order) for order in tree["placed"]]
-        tree["begun"] = tree["begun"] and Begun(**tree["begun"])
-        stated = tree["overrides"].items()
-        tree["overrides"] = {name: Override(**one) for name, one in stated}
-        return cls(**tree)
+        return cast(State, value_of(cls, json.loads(text)))
 
     @classmethod
     def stored(cls, path: Path) -> State:

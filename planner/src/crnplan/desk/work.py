@@ -117,17 +117,16 @@ class Shown:
             )
 
 
+def files_of(asked: dict[str, Any]) -> tuple[list[Any], dict[str, Any]]:
+    """Returns the files of a call: those that come first, and others by name."""
+    tables = dict(asked["tables"])
+    return [tables.pop(kind, None) for kind in ("demand", "items", "orders")], tables
+
+
 def read(asked: dict[str, Any], reading: crn.Reading, settings: crn.Settings) -> None:
     """Reads the files of a desk, and keeps what was read."""
-    tables = asked["tables"]
-    read = crn.read_catalogue(
-        tables["demand"],
-        tables["items"],
-        tables.get("orders"),
-        out_of_stock=tables.get("out_of_stock"),
-        laws=tables.get("laws"),
-        reading=reading,
-    )
+    files, others = files_of(asked)
+    read = crn.read_catalogue(*files, **others, reading=reading)
     with own_folder(Path(asked["out"]), CATALOGUE) as folder:
         take_tables(folder, read, None, None, None, reading, None)
 
@@ -136,13 +135,10 @@ def plan(asked: dict[str, Any], reading: crn.Reading, settings: crn.Settings) ->
     """Plans the files of a desk into a folder, and computes what would change the answer."""
     if not asked["after"]:
         settings = replace(settings, least_gain=None)
-    tables = asked["tables"]
+    files, others = files_of(asked)
     crn.plan(
-        tables["demand"],
-        tables["items"],
-        tables.get("orders"),
-        out_of_stock=tables.get("out_of_stock"),
-        laws=tables.get("laws"),
+        *files,
+        **others,
         reading=reading,
         settings=settings,
         overrides=asked["overrides"],
@@ -157,12 +153,11 @@ def plan(asked: dict[str, Any], reading: crn.Reading, settings: crn.Settings) ->
 
 def test(asked: dict[str, Any], reading: crn.Reading, settings: crn.Settings) -> None:
     """Tests plans on the past of the files of a desk, in a folder."""
-    tables = asked["tables"]
+    files, others = files_of(asked)
+    others.pop("laws", None)  # Nobody has stated those of the past.
     crn.backtest(
-        tables["demand"],
-        tables["items"],
-        tables.get("orders"),
-        out_of_stock=tables.get("out_of_stock"),
+        *files,
+        **others,
         reading=reading,
         settings=settings,
         out=asked["out"],

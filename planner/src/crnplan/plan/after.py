@@ -1,7 +1,6 @@
 """Plans a catalogue after an earlier plan: takes over what has not changed, and keeps what has."""
 from __future__ import annotations
 
-import contextlib
 import dataclasses
 import heapq
 import itertools
@@ -54,15 +53,6 @@ def check_records(path: Path, earlier: Catalogued, read: Catalogued) -> None:
         )
 
 
-def taken(answer: Answer | Remark) -> Answer | Remark:
-    """Returns the answer of an earlier plan to a question that has not changed. The policy before is its own."""
-    return (
-        answer
-        if isinstance(answer, Remark)
-        else dataclasses.replace(answer, before=answer.chosen)
-    )
-
-
 def asked_after(
     read: Catalogued, planned: Planned, earlier: PlannedFolder | None, name: str
 ) -> tuple[Item, tuple[Levels, ...] | None] | Known:
@@ -80,8 +70,10 @@ def asked_after(
     )
     if before and before.undamped:
         is_same &= planned.settings.least_gain == earlier.settings.least_gain
+    if is_same and before:  # The policy before is its own.
+        answer = dataclasses.replace(before, before=before.chosen)
     if is_same:
-        return Known(taken(answer))
+        return Known(answer)
     return item, levels_in(before, read.fact("every"), item) if before else None
 
 
@@ -159,7 +151,7 @@ def changes_since(earlier: PlannedFolder, now: PlannedFolder) -> Iterator[Change
 def keep_changes(folder: Folder, plan: str, changes: Iterable[Change]) -> None:
     """Keeps the changes of a plan in its folder, in place of others."""
     names = list[str]()
-    with contextlib.closing(Store(folder.store(CHANGES), Change)) as store:
+    with Store(folder.store(CHANGES), Change) as store:
         store.renew()
         for some in batched(changes, AT_ONCE):
             store.keep(sealed(Change, change.name, plan, change) for change in some)

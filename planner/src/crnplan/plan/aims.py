@@ -4,9 +4,9 @@ from __future__ import annotations
 
 import itertools
 import math
-from collections.abc import Mapping, Sequence
+from collections.abc import Sequence
 from dataclasses import dataclass
-from typing import Any, Protocol, TypeVar
+from typing import Any
 
 import numpy as np
 
@@ -18,33 +18,6 @@ LOGS = np.log1p(-np.array(FILLS))
 MOST = 0.999  # An aim is no higher: what is unmet there, more stock hardly meets.
 CLASSES = ("slow", "fast")
 LEAST_CLASS = 15  # Smaller classes have what all items have.
-
-
-class Meant(Protocol):
-    """What has the mean demand of an item."""
-
-    @property
-    def mean(self) -> float:
-        ...
-
-
-Tries = TypeVar("Tries", bound=Meant)
-
-
-def classed(trials: Sequence[Tries]) -> tuple[float, list[Sequence[Tries]]]:
-    """Returns the median of the mean demand of items, and the trials of slow ones, which have up to that, and of fast
-    ones: those of all for a class of fewer than 15 items."""
-    means = np.array([trial.mean for trial in trials])
-    speed, classes = float(np.median(means)), list[Sequence[Tries]]()
-    for is_in in (means <= speed, means > speed):
-        own = [*itertools.compress(trials, is_in)]
-        classes.append(own if len(own) >= LEAST_CLASS else trials)
-    return speed, classes
-
-
-def is_fast(counts: Sequence[float], speed: float) -> bool:
-    """Returns whether the mean of the demands of an item is above the median of all."""
-    return float(np.mean(counts)) > speed
 
 
 @dataclass(frozen=True)
@@ -68,6 +41,22 @@ class CostTrial:
     periods: int
     promised: float
     cost: float
+
+
+def classed(trials: Sequence[Any]) -> tuple[float, list[Sequence[Any]]]:
+    """Returns the median of the mean demand of items, and the trials of slow ones, which have up to that, and of fast
+    ones. A class of fewer than 15 has all of them."""
+    means = np.array([trial.mean for trial in trials])
+    speed, classes = float(np.median(means)), list[Sequence[Any]]()
+    for is_in in (means <= speed, means > speed):
+        own = [*itertools.compress(trials, is_in)]
+        classes.append(own if len(own) >= LEAST_CLASS else trials)
+    return speed, classes
+
+
+def is_fast(counts: Sequence[float], speed: float) -> bool:
+    """Returns whether the mean of the demands of an item is above the median of all."""
+    return float(np.mean(counts)) > speed
 
 
 @dataclass(frozen=True)
@@ -120,15 +109,6 @@ class Aims:
         speed, classes = classed(trials)
         return cls(speed, tuple(map(Tried.of, classes)))
 
-    @classmethod
-    def parse(cls, tree: Mapping[str, Any]) -> Aims:
-        """Returns that of which `dataclasses.asdict` has made a tree. Raises LookupError or TypeError for another one."""
-        classes = list[Tried]()
-        for tried in tree["classes"]:
-            unmet = tuple(tried["unmet"])
-            classes.append(Tried(tried["items"], tried["periods"], unmet))
-        return cls(tree["speed"], tuple(classes))
-
     def of_item(self, counts: Sequence[float]) -> Tried:
         """Returns what is known of the class of an item."""
         return self.classes[is_fast(counts, self.speed)]
@@ -174,11 +154,6 @@ class Overruns:
         """Learns from trials. A class of fewer than 15 items has those of all."""
         speed, classes = classed(trials)
         return cls(speed, tuple(map(Overrun.of, classes)))
-
-    @classmethod
-    def parse(cls, tree: Mapping[str, Any]) -> Overruns:
-        """Returns that of which `dataclasses.asdict` has made a tree. Raises LookupError or TypeError for another one."""
-        return cls(tree["speed"], tuple(Overrun(**own) for own in tree["classes"]))
 
     def of_item(self, counts: Sequence[float]) -> Overrun:
         """Returns what is known of the class of an item."""

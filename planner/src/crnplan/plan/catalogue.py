@@ -22,6 +22,7 @@ from ..read.catalogue_reading import CATALOGUE, READ, Catalogued
 from ..read.item import Item
 from ..remarks import Remark
 from ..store.stored import Damaged, Store, reading
+from ..store.trees import value_of
 from ..table import Column, DataTable
 from ..words import advice, sentence
 from ..store.work import Work
@@ -102,8 +103,7 @@ class Planned:
                 prior = Prior.parse(answers.fact(PRIOR) or "", str(answers.named))
             stated = tree["settings"]
             for name, kind in LEARNED.items():
-                if stated.get(name) is not None:
-                    stated[name] = kind.parse(stated[name])
+                stated[name] = value_of(kind | None, stated.get(name))
             settings = Settings(**stated)
             return cls(
                 settings, prior, str(tree["common"]), str(tree.get("earlier", ""))
@@ -164,7 +164,7 @@ class PlannedFolder:
         """Yields what has changed since the earlier plan, by item. Raises Refused if that is not known."""
         if not self.planned.earlier:
             return
-        with contextlib.closing(Store(self.path / CHANGES, Change)) as store:
+        with Store(self.path / CHANGES, Change) as store:
             if store.fact(PLAN) != self.digest:
                 raise Refused(
                     f"{self.path}: what has changed since the earlier plan is not known",
@@ -312,18 +312,14 @@ def planned_folder(
     index = index or path / ANSWERS
     if not (path / READ).is_file() or not index.is_file():
         raise no_plan(path)
-    with contextlib.closing(
-        Store(index, Answer, is_read=is_read, named=path / ANSWERS)
-    ) as answers:
+    with Store(index, Answer, is_read=is_read, named=path / ANSWERS) as answers:
         planned = Planned.of(answers)
         if planned is None:
             raise no_plan(path)
-        with contextlib.closing(
-            Catalogued(
-                path / READ,
-                planned.settings.window,
-                planned=planned.settings.planned_by,
-            )
+        with Catalogued(
+            path / READ,
+            planned.settings.window,
+            planned=planned.settings.planned_by,
         ) as read:
             yield PlannedFolder(path, read, answers, planned)
 
@@ -412,10 +408,10 @@ def planning(
     with (
         faults_of(folder.path),
         earlier_folder(after, folder) as earlier,
-        contextlib.closing(
-            Catalogued(folder.path / READ, settings.window, planned=settings.planned_by)
+        Catalogued(
+            folder.path / READ, settings.window, planned=settings.planned_by
         ) as read,
-        contextlib.closing(Store(folder.store(ANSWERS), Answer)) as answers,
+        Store(folder.store(ANSWERS), Answer) as answers,
     ):
         if earlier:
             check_records(earlier.path, earlier.read, read)

@@ -150,7 +150,7 @@ def checked_run(
 ) -> Checked | None:
     """Returns the run of today's policy and of the chosen one with some levels; None if crnsim can't run them. Raises
     Refused if the bias of the start is not known, Disagreement and ProgramError."""
-    if not question.has_run:
+    if question.item.review > 1:
         return None
     report = scenario_of(question, levels).run(program=program)
     sample = Sample(question, report)

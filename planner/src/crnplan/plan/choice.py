@@ -2,8 +2,9 @@
 from __future__ import annotations
 
 import dataclasses
+import itertools
 import math
-from collections.abc import Sequence
+from collections.abc import Iterable, Sequence
 from dataclasses import dataclass
 from typing import Any
 
@@ -62,9 +63,7 @@ class Choice:
         )
 
 
-def allowed_by(
-    question: Question, laws: int = LAWS
-) -> tuple[tuple[Law, ...], tuple[Law, ...]]:
+def allowed_by(question: Question, laws: int = LAWS) -> list[tuple[Law, Law]]:
     """Returns so many laws of demand, and perhaps of lead times, that an item's history allows. They follow from its
     name and the seed."""
     item, seed = question.item, question.seed("allowed")
@@ -79,10 +78,10 @@ def allowed_by(
             is_new=question.is_new,
             **named,
         )
-    demands = tuple(map(question.coming, drawn))
-    if len(item.leads) < 2:
-        return demands, ()
-    return demands, allowed_leads(item.leads, times=laws, seed=seed)
+    leads: Iterable[Law] = itertools.repeat(question.lead.table)
+    if len(item.leads) > 1:
+        leads = allowed_leads(item.leads, times=laws, seed=seed)
+    return [*zip(map(question.coming, drawn), leads)]
 
 
 def by_prices(
@@ -160,7 +159,7 @@ def promised(question: Question) -> tuple[Choice, Promises | None]:
     assert share is not None and confidence is not None
     theory, allowed = question.theory, allowed_by(question)
     gap = theory.gap_of(*plain)
-    promises = Promises(question.scenario(), theory, gap, *allowed, [share], confidence)
+    promises = Promises(question.scenario(), theory, gap, allowed, [share], confidence)
     sure = promises.cheapest(best, share)
     if sure.cost == math.inf:
         return Choice(plain, plain, False), None

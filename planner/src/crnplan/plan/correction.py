@@ -8,19 +8,16 @@ ways.
 """
 from __future__ import annotations
 
-import contextlib
 import dataclasses
 import itertools
-import json
 import math
-from collections.abc import Callable, Iterator, Mapping, Sequence
+from collections.abc import Callable, Iterator, Sequence
 from dataclasses import dataclass
 from typing import Any, NamedTuple
 
 import numpy as np
 
 from ..chances import Floats
-from ..compiled import load_compiler
 from ..crnsim.periods import Past, Period, Rates, periods_of
 from ..demand.learning import Prior
 from ..errors import Refused, argument
@@ -32,11 +29,10 @@ from ..read.quiet import is_quiet
 from ..remarks import Remark
 from ..store.stored import Store
 from ..theory.long_run import LongRun
-from ..store.work import Work
 from .aims import FILLS, Aims, CostTrial, Overruns, Trial
 from .choice import best_of
-from .learned import drawn_of_groups
-from .one import or_fault
+from .learned import drawn_of_groups, learned_once
+from .one import each_answer
 from .how import Settings, flat_of
 from .question import Levels, Question, question_of
 
@@ -154,29 +150,17 @@ def cost_trial_of(item: Item, settings: Settings, prior: Prior) -> CostTrial:
     )
 
 
-def trial_asked(item: Item, settings: Settings, prior: Prior) -> Trial | Remark:
-    """Returns the trial of an item, or why it has none."""
-    return or_fault(item, trial_of, settings, prior)
-
-
-def cost_trial_asked(
-    item: Item, settings: Settings, prior: Prior
-) -> CostTrial | Remark:
-    """Returns the trial of an item with a backlog cost, or why it has none."""
-    return or_fault(item, cost_trial_of, settings, prior)
-
-
 class Kind(NamedTuple):
     """What is tried on the past: of items with a fact, by a function, whose answers are kept in a store."""
 
     fact: str
-    asked: Callable[[Item, Settings, Prior], Any]
+    trial: Callable[[Item, Settings, Prior], Any]
     answer: type[Any]
     store: str
 
 
-OF_FILLS = Kind("fill", trial_asked, Trial, TRIALS)
-OF_COSTS = Kind("backlog", cost_trial_asked, CostTrial, COST_TRIALS)
+OF_FILLS = Kind("fill", trial_of, Trial, TRIALS)
+OF_COSTS = Kind("backlog", cost_trial_of, CostTrial, COST_TRIALS)
 
 
 def tried_names(read: Catalogued, kind: Kind = OF_FILLS) -> list[str]:
@@ -195,28 +179,17 @@ def tried_on(
     read: Catalogued,
     settings: Settings,
     prior: Prior,
-    common: str,
     means: Means,
     kind: Kind = OF_FILLS,
+    part: str = "",
 ) -> list[Any]:
-    """Returns the trials of items, of which those that are kept in a store of the folder are not made again."""
+    """Returns the trials of items, of which those that are kept in a store of the folder are not made again. `part` says
+    of which periods they are, if not of all."""
+    common, words = settings.common(part, prior), (kind.trial, settings, prior)
     questions = [(name, read.digest(name, common)) for name in tried_names(read, kind)]
-    words, tried = (settings, prior), list[Any]()
-    with contextlib.closing(Store(folder.store(kind.store), kind.answer)) as trials:
-        work = Work(
-            trials,
-            questions.copy,
-            read.item,
-            kind.asked,
-            words,
-            unit="trials",
-            load=load_compiler,
-        )
-        work.finish(means.workers(), shown=means.shown)
-        for _, _, trial in trials.answers():
-            if isinstance(trial, kind.answer):
-                tried.append(trial)
-    return tried
+    store, asked = folder.store(kind.store), questions.copy
+    trials = each_answer(store, kind.answer, asked, read.item, words, "trials", means)
+    return [trial for _, trial in trials]
 
 
 def ways_of(settings: Settings) -> Settings:
@@ -254,17 +227,6 @@ class Corrections:
     fills: int | None
     costs: int | None
 
-    @classmethod
-    def parse(cls, tree: Mapping[str, Any]) -> Corrections:
-        """Returns that of which `dataclasses.asdict` has made a tree. Raises LookupError or TypeError for another one."""
-        aims, overruns = tree["aims"], tree["overruns"]
-        return cls(
-            aims and Aims.parse(aims),
-            overruns and Overruns.parse(overruns),
-            tree["fills"],
-            tree["costs"],
-        )
-
     def settled(self, settings: Settings) -> tuple[Settings, list[Remark]]:
         """Returns settings with what is corrected, and remarks on a kind of items that is left as it is. Raises Refused
         if nothing is corrected, not even what items meet together."""
@@ -300,22 +262,20 @@ def corrections_of(
     """Returns what the past of a catalogue corrects: fill rates if some item `has_aims`. What was learned before is used
     again as it is, also if items change, unless it is to be learned `again`, or items are planned in another way. Trials
     are kept in the folder."""
-    common = [has_aims, cost_ways_of(settings, None).common("", prior)]
-    kept = json.loads(answers.fact(AIMS) or "null")
-    if kept and kept["common"] == common and not again:
-        return Corrections.parse(kept["corrections"])
-    tried: list[Any] | None = None
-    costs: list[Any] | None = None
-    if has_aims and tried_names(read):
-        on = ways_of(settings)
-        tried = tried_on(folder, read, on, prior, on.common("", prior), means)
-    aims = Aims.of(tried) if tried and len(tried) >= LEAST_ITEMS else None
-    if tried_names(read, OF_COSTS):
-        on = cost_ways_of(settings, aims)
-        costs = tried_on(folder, read, on, prior, on.common("", prior), means, OF_COSTS)
-    overruns = Overruns.of(costs) if costs and len(costs) >= LEAST_ITEMS else None
-    counts = (None if some is None else len(some) for some in (tried, costs))
-    found = Corrections(aims, overruns, *counts)
-    fact = {"common": common, "corrections": dataclasses.asdict(found)}
-    answers.keep_facts({AIMS: json.dumps(fact)})
-    return found
+
+    def learned() -> Corrections:
+        tried: list[Any] | None = None
+        costs: list[Any] | None = None
+        if has_aims and tried_names(read):
+            on = ways_of(settings)
+            tried = tried_on(folder, read, on, prior, means)
+        aims = Aims.of(tried) if tried and len(tried) >= LEAST_ITEMS else None
+        if tried_names(read, OF_COSTS):
+            on = cost_ways_of(settings, aims)
+            costs = tried_on(folder, read, on, prior, means, OF_COSTS)
+        overruns = Overruns.of(costs) if costs and len(costs) >= LEAST_ITEMS else None
+        counts = (None if some is None else len(some) for some in (tried, costs))
+        return Corrections(aims, overruns, *counts)
+
+    basis = [has_aims, cost_ways_of(settings, None).common("", prior)]
+    return learned_once(answers, AIMS, Corrections, basis, again, learned)

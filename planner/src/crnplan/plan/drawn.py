@@ -50,7 +50,9 @@ class Draws:
             return
         _keep(self._greatest, (size, name), self._most)
         # As many may be taken for certain as are drawn.
-        _keep(self._first, (-uniform_of(name) / size, name, size), 2 * self._most)
+        # A number above 0 and at most 1, which is as good as at random.
+        uniform = (number_of(name, BITS) + 1) / 2.0**BITS
+        _keep(self._first, (-uniform / size, name, size), 2 * self._most)
 
     def drawn(self, total: float) -> Drawn:
         """Returns the items that are taken and drawn, of all whose sizes have this sum.
@@ -83,20 +85,15 @@ def _keep(heap: list[Entry], entry: Entry, most: int) -> None:
         heapq.heapreplace(heap, entry)
 
 
-def uniform_of(name: str) -> float:
-    """Returns a number above 0 and at most 1 that follows from a name, and is as good as at random."""
-    return float(number_of(name, BITS) + 1) / 2.0**BITS
-
-
 class Estimate(NamedTuple):
     """A figure of all items with its standard error, which is infinite if too little is known."""
 
     value: float
     error: float = 0.0
 
-    def is_known(self, least: float = 0.0) -> bool:
-        """Returns whether its standard error is at most a tenth of it, or `least`."""
-        return self.error <= max(abs(self.value) / 10, least)
+    def is_known(self) -> bool:
+        """Returns whether its standard error is at most a tenth of it."""
+        return self.error <= abs(self.value) / 10
 
     def plus(self, amount: float) -> Estimate:
         return self._replace(value=self.value + amount)

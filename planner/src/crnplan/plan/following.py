@@ -5,7 +5,6 @@ from __future__ import annotations
 from collections import defaultdict
 from collections.abc import Iterable, Mapping
 from dataclasses import dataclass
-from typing import Any
 
 from ..demand.fitted import FittedLaw
 from ..demand.level import Moves, factor_of, weight_of
@@ -50,11 +49,6 @@ class Following:
             groups[item.group].append(Moves.of(item.known.counts))
         weights = {name: weight_of(groups[name]) for name in sorted(groups)}
         return cls({name: weight for name, weight in weights.items() if weight})
-
-    @classmethod
-    def parse(cls, tree: Mapping[str, Any]) -> Following:
-        """Returns that of which `dataclasses.asdict` has made a tree. Raises LookupError or TypeError for another one."""
-        return cls(dict(tree["classes"]))
 
     def at_level(self, item: Item, law: FittedLaw) -> AtLevel | None:
         """Returns how an item without its season is planned by the law of its record. None for one whose law

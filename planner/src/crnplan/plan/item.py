@@ -6,7 +6,6 @@ from __future__ import annotations
 from collections.abc import Mapping
 from dataclasses import replace
 from functools import cached_property
-from itertools import repeat
 from operator import attrgetter
 from typing import NamedTuple
 
@@ -127,7 +126,7 @@ class Depth:
         return self.question.alone().of_month
 
     @cached_property
-    def allowed(self) -> tuple[tuple[Law, ...], tuple[Law, ...]]:
+    def allowed(self) -> list[tuple[Law, Law]]:
         return allowed_by(self.question, self.laws)
 
     @cached_property
@@ -147,7 +146,7 @@ class Depth:
             question.scenario(),
             self.theory,
             gap,
-            *self.allowed,
+            self.allowed,
             fills,
             self.confidence,
         )
@@ -257,12 +256,12 @@ class Depth:
         """
         if self.promises is None:
             return None
-        (demands, leads), policies = self.allowed, tuple(self.policies)
+        policies = tuple(self.policies)
         # Without a backlog cost it is that by which a newsvendor would meet the wanted share.
         scenario = replace(self.scenario, costs=self.question.for_theory().costs)
-        laws = [*zip(demands, leads or repeat(scenario.lead))]
+        made = self.promises.made
         try:
-            figures = figures_of_laws(scenario, laws, policies, self.promises.made)
+            figures = figures_of_laws(scenario, self.allowed, policies, made)
         except NoTheory:
             return None
         return Doubt(policies, figures)

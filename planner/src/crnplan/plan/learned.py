@@ -5,8 +5,8 @@ import dataclasses
 import heapq
 import json
 from collections import Counter, defaultdict
-from collections.abc import Callable, Iterable, Iterator, Mapping, Sequence
-from typing import Any, NamedTuple, TypeVar
+from collections.abc import Callable, Iterable, Iterator
+from typing import Any, NamedTuple, TypeVar, cast
 
 import numpy as np
 
@@ -19,6 +19,7 @@ from ..read.catalogue_reading import Catalogued
 from ..read.item import NO_DEMAND, STATED, TEACHING, Item
 from ..remarks import Remark
 from ..store.stored import Store
+from ..store.trees import value_of
 from .following import Following
 from .how import ALL, CLASS, NONE, Settings, without_season
 from .seasons import Seasons, whole_years
@@ -29,7 +30,7 @@ FOLLOWING = "following"
 # Items whose histories are looked at for the law of a whole catalogue (it is estimated on 3,000 of them), and for those
 # of all classes together, unless these are so many that few items of each are left.
 MOST_READ, MOST_OF_CLASSES = 10_000, 30_000
-Thing = TypeVar("Thing", Seasons, Following)  # that is learned
+Thing = TypeVar("Thing")  # that is learned
 
 
 class Learned(NamedTuple):
@@ -155,7 +156,7 @@ def seasons_of(
         return Seasons.of(every, items, is_marked)
 
     basis = [every, read.window, years, is_marked]
-    return learned_once(answers, SEASONS, Seasons.parse, basis, again, learned)
+    return learned_once(answers, SEASONS, Seasons, basis, again, learned)
 
 
 def following_of(
@@ -172,24 +173,25 @@ def following_of(
         return Following.of(without_season(item, settings)[0] for item in items)
 
     basis = [basis_of(read, settings)]
-    return learned_once(answers, FOLLOWING, Following.parse, basis, again, learned)
+    return learned_once(answers, FOLLOWING, Following, basis, again, learned)
 
 
 def learned_once(
     answers: Store[Any],
     name: str,
-    parse: Callable[[Mapping[str, Any]], Thing],
-    basis: Sequence[Any],
+    kind: type[Thing],
+    basis: object,
     again: bool,
     learned: Callable[[], Thing],
 ) -> Thing:
     """Returns what was learned of a catalogue in an earlier run, if that is kept under a name, was learned on the same
     basis, and is not to be learned `again`; else what is learned now, and keeps it."""
-    kept = json.loads(answers.fact(name) or "null")
-    if kept and kept["basis"] == basis and not again:
-        return parse(kept[name])
+    kept = json.loads(answers.fact(name) or "{}")
+    if kept.get("basis") == basis and not again:
+        return cast(Thing, value_of(kind, kept[name]))
     thing = learned()
-    fact = {"basis": basis, name: dataclasses.asdict(thing)}
+    tree = dataclasses.asdict(cast(Any, thing))
+    fact = {"basis": basis, name: tree}
     answers.keep_facts({name: json.dumps(fact)})
     return thing
 

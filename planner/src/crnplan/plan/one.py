@@ -9,11 +9,13 @@ from __future__ import annotations
 import dataclasses
 import itertools
 import math
-from collections.abc import Callable, Iterator, Mapping, Sequence
+from collections.abc import Callable, Iterable, Iterator, Mapping, Sequence
+from pathlib import Path
 from typing import Any, TypeVar
 
 import numpy as np
 
+from ..compiled import load_compiler
 from ..demand import EMPIRICAL
 from ..demand.checks import remarks_of as checked
 from ..demand.fitted import FittedLaw
@@ -24,6 +26,9 @@ from ..formats import MOST_DEMAND
 from ..read.item import ENDED, NEW, NO_DEMAND, Item
 from ..remarks import Remark, Value
 from ..policies import Policy
+from ..store.means import Means
+from ..store.stored import Store
+from ..store.work import Work
 from ..theory.lattice import NoTheory
 from ..theory.many_laws import figures_of_laws
 from .answer import (
@@ -31,21 +36,17 @@ from .answer import (
     BEFORE,
     BOUNDED,
     BY_ITSELF,
-    CHEAPER,
     CHOSEN,
     DAMPED,
-    DEARER,
     IDLE,
     NO_RUN,
     OVERRIDE,
     RUN,
     SAME,
-    SERVICE,
     THEORY,
     TODAY,
     UNCOMPARED,
     UNDAMPED,
-    UNDECIDED,
     Allowed,
     Answer,
     Correction,
@@ -54,40 +55,19 @@ from .answer import (
     Run,
     Share,
 )
-from .binding import Bound, bounds_of, remarks_of_bounds, remarks_of_today
+from .binding import bounds_of, remarks_of_bounds, remarks_of_today
 from .bounds import COVERAGES
 from .checked_run import Sample, checked_run
 from .choice import CLOSE, Choice, allowed_by, best_by_price, choice_of, levels_of
 from .packs import remarks_of_packs
 from .how import Settings
 from .question import Levels, NoPolicy, Question, Unplanned, question_of
-from .yearly import Planned, over_year
+from .yearly import Planned, over_year, verdict_of
 
 Result = TypeVar("Result")
 TENTHS = 0.1, 0.9
 LEAST_DEMANDS = 10
 ROUGH_RATES = 0.001
-
-
-def verdict_of(
-    question: Question,
-    today: Figures,
-    saving: float,
-    low: float | None,
-    high: float | None,
-) -> str:
-    """Returns the verdict on a policy that is not today's, by its saving, which is between both ends."""
-    share = question.aim
-    has_goal = share is not None or question.together is not None
-    if low is not None and low > 0:
-        return CHEAPER
-    if (
-        has_goal
-        and not question.has_backlog
-        and (question.met(today) < (share or 0.0) or saving < 0)
-    ):
-        return SERVICE
-    return DEARER if high is not None and high < 0 else UNDECIDED
 
 
 Compared = tuple[float | None, float | None, float | None, float | None]
@@ -136,11 +116,9 @@ def allowed_of(question: Question, levels: Levels) -> Allowed | None:
     other items, and if no such law has a long run."""
     if not question.is_new:
         return None
-    demands, leads = allowed_by(question)
-    scenario = question.for_theory()
-    laws = [*zip(demands, leads or itertools.repeat(scenario.lead))]
+    laws, policies = allowed_by(question), [Policy(CHOSEN, *levels)]
     try:
-        figures = figures_of_laws(scenario, laws, [Policy(CHOSEN, *levels)])
+        figures = figures_of_laws(question.for_theory(), laws, policies)
     except NoTheory:
         return None
     low, high = np.quantile(figures.fill, TENTHS).tolist()
@@ -331,15 +309,6 @@ def figures_by_policy(question: Question, choice: Choice) -> dict[str, Figures]:
     return figures
 
 
-def remarks_of_choice(
-    question: Question, choice: Choice, bounds: Sequence[Bound]
-) -> Iterator[Remark]:
-    """Yields what is to be said of a choice beside today's levels, its bounds and its packs."""
-    yield from remarks_of_today(question, choice)
-    yield from remarks_of_bounds(question, choice, bounds)
-    yield from remarks_of_packs(question, choice.levels)
-
-
 def answer_of(question: Question, choice: Choice, program: str) -> Answer:
     """Returns the answer with a choice, beside which stands a run, if there can be one. Raises as `plan_one` does."""
     theory, figures = question.theory, figures_by_policy(question, choice)
@@ -374,7 +343,9 @@ def answer_of(question: Question, choice: Choice, program: str) -> Answer:
         (
             *remarks_of_past(question, allowed),
             *remarks_of(question, sample, choice),
-            *remarks_of_choice(question, choice, bounds),
+            *remarks_of_today(question, choice),
+            *remarks_of_bounds(question, choice, bounds),
+            *remarks_of_packs(question, choice.levels),
             *remarks_of_damping(question, figures),
         ),
         allowed,
@@ -384,13 +355,16 @@ def answer_of(question: Question, choice: Choice, program: str) -> Answer:
     )
 
 
-def or_fault(item: Item, answer: Callable[..., Result], *words: Any) -> Result | Remark:
+def or_fault(
+    asked: Item | tuple[Item, Any], answer: Callable[..., Result], *words: Any
+) -> Result | Remark:
     """Returns what a function of an item and further words returns, or as a code and facts why there is no such answer.
     Raises ProgramError, since then no item has one."""
+    item, *more = asked if isinstance(asked, tuple) else (asked,)
     if item.past == NO_DEMAND:
         return Remark(IDLE, {"periods": len(item.known.counts)})
     try:
-        return answer(item, *words)
+        return answer(item, *more, *words)
     except Unplanned as why:
         return why.fault
     except Refused as why:
@@ -398,6 +372,25 @@ def or_fault(item: Item, answer: Callable[..., Result], *words: Any) -> Result |
         return Remark("refused", {"what": what, "advice": advice})
     except (ArithmeticError, ValueError, LookupError, MemoryError) as why:
         return Remark("failed", {"kind": type(why).__name__, "what": str(why)})
+
+
+def each_answer(
+    store: Path,
+    kind: type[Result],
+    questions: Callable[[], Iterable[tuple[str, str]]],
+    ask: Callable[[str], Any],
+    words: Sequence[Any],
+    unit: str,
+    means: Means,
+) -> Iterator[tuple[str, Result]]:
+    """Yields by name in order the answers of a kind to questions on items, which are kept in a store. A function of what
+    is asked gives them, the first of some `words`, with the others."""
+    with Store(store, kind) as kept:
+        work = Work(kept, questions, ask, or_fault, words, unit, load=load_compiler)
+        work.finish(means.workers(), shown=means.shown)
+        for name, _, answer in kept.answers():
+            if isinstance(answer, kind):
+                yield name, answer
 
 
 def planned(
@@ -416,7 +409,7 @@ def planned(
     for stretch in question.season.year:
         asked = question.month(stretch, next(earlier)) if months else question
         months.append(Planned(asked, plan_one(asked, program)))
-    return over_year(months, verdict_of)
+    return over_year(months)
 
 
 def plan_asked(

@@ -9,7 +9,6 @@ from __future__ import annotations
 
 from collections.abc import Mapping
 from dataclasses import dataclass
-from typing import Any
 
 from ..read.item import Item
 
@@ -50,8 +49,3 @@ class Prices:
     """The prices of all groups, by the names of their classes."""
 
     groups: Mapping[str, Price]
-
-    @classmethod
-    def parse(cls, tree: Mapping[str, Any]) -> Prices:
-        """Returns that of which `dataclasses.asdict` has made a tree. Raises LookupError or TypeError for another one."""
-        return cls({name: Price(**price) for name, price in tree["groups"].items()})

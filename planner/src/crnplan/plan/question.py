@@ -91,11 +91,6 @@ class Terms:
         return self.item.past == NEW
 
     @property
-    def has_run(self) -> bool:
-        """Returns whether crnsim can run the item's policies: it reviews in each period."""
-        return self.item.review == 1
-
-    @property
     def is_stated(self) -> bool:
         """Returns whether the law of demand is stated, whatever the history says."""
         return self.item.law is not None

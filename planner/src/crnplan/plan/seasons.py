@@ -6,7 +6,7 @@ import itertools
 from collections import defaultdict
 from collections.abc import Iterable, Mapping, Sequence
 from dataclasses import dataclass, field, replace
-from typing import Any, NamedTuple
+from typing import NamedTuple
 
 import numpy as np
 
@@ -171,17 +171,6 @@ class Seasons:
     def promotions(self, item: Item) -> set[int]:
         """Returns the places of the promoted periods of an item."""
         return promotions_of(item, self.promoted.get(item.group, ()))
-
-    @classmethod
-    def parse(cls, tree: Mapping[str, Any]) -> Seasons:
-        """Returns that of which `dataclasses.asdict` has made a tree. Raises LookupError or TypeError for another one."""
-        classes = dict[str, Index]()
-        for name, (values, *facts) in tree["classes"].items():
-            classes[name] = Index(tuple(values), *facts)
-        promoted = {
-            name: tuple(weeks) for name, weeks in tree.get("promoted", {}).items()
-        }
-        return cls(tree["every"], classes, promoted, tree.get("own", {}))
 
     def seen_in(self, item: Item) -> Index | None:
         """Returns the index of an item: its own if that is clear, else that of its class; None without a season."""

@@ -7,7 +7,6 @@ best ones are computed.
 """
 from __future__ import annotations
 
-import contextlib
 import math
 from collections.abc import Sequence
 from dataclasses import dataclass, replace
@@ -25,7 +24,6 @@ from ..store.files import IN_KEPT, Folder
 from ..store.means import Means
 from ..law import Law
 from ..read.item import Item
-from ..remarks import Remark
 from ..store.stored import Store
 from ..store.work import Work
 from .answer import CHOSEN, TODAY as TODAY_POLICY, Answer
@@ -130,12 +128,6 @@ def swing_on(item: Item, answer: Answer, settings: Settings) -> Swing:
     return Swing(tuple(rows))
 
 
-def swing_asked(asked: tuple[Item, Answer], settings: Settings) -> Swing | Remark:
-    """Returns the figures of an item with its answer, or why it has none."""
-    item, answer = asked
-    return or_fault(item, swing_on, answer, settings)
-
-
 def drawn_items(folder: PlannedFolder, survey: Survey) -> dict[str, str]:
     """Returns the items of a survey that are drawn, each with the digest of all that its figures depend on."""
     return {
@@ -148,14 +140,14 @@ def keep_swings(
     own: Folder, folder: PlannedFolder, survey: Survey, means: Means
 ) -> None:
     """Computes the figures of a planned folder that are not kept yet, and keeps them."""
-    with contextlib.closing(Store(own.store(SWINGS), Swing)) as kept:
+    with Store(own.store(SWINGS), Swing) as kept:
         drawn = sorted(drawn_items(folder, survey).items())
         work = Work(
             kept,
             lambda: drawn,
             folder.item,
-            swing_asked,
-            (folder.settings,),
+            or_fault,
+            (swing_on, folder.settings),
             batch=1,
             load=load_compiler,
         )
@@ -167,7 +159,7 @@ def kept_swings(folder: PlannedFolder, survey: Survey) -> Swings | None:
     path = folder.path / SWINGS
     if not path.is_file():
         return None
-    with contextlib.closing(Store(path, Swing)) as kept:
+    with Store(path, Swing) as kept:
         digests, drawn = dict(kept.digests()), drawn_items(folder, survey)
         if not drawn or any(
             digests.get(name) != digest for name, digest in drawn.items()

@@ -7,7 +7,6 @@ from the others, met the wanted share together.
 """
 from __future__ import annotations
 
-import contextlib
 import dataclasses
 import json
 import math
@@ -20,20 +19,19 @@ from typing import Any, NamedTuple
 import numpy as np
 
 from ..chances import Floats
-from ..compiled import load_compiler
 from ..demand.learning import Prior
 from ..errors import Refused, argument
 from ..read.catalogue_reading import Catalogued
 from ..read.item import UNORDERED, USUAL, Item
-from ..remarks import Remark
 from ..store.files import IN_KEPT, Folder
 from ..store.means import Means
 from ..store.stored import Store
-from ..store.work import Work
 from .correction import LEAST_ITEMS
-from .offers import Asked, Offer, Sums, met_on_past, offer_asked, past_asked
+from .offers import Asked, Offer, Sums, met_on_past, offer_of, past_of
+from .one import each_answer
 from .prices import ITEMS, UNITS, VALUE, Price, Prices
 from .how import Settings
+from .learned import learned_once
 
 PRICES = "prices"  # a fact of the store of answers
 COARSE, FINER, ON_PAST = (
@@ -47,7 +45,6 @@ DIGITS = 4  # of a price
 # What may be left unmet of each item, times what may be of all together: for the one fill rate with the same stock.
 TIMES = (8.0, 4.0, 2.0, 1.4, 1.0, 0.7)
 MOST_UNMET = 0.9
-Answered = Callable[..., Offer | Remark]
 
 
 class OnPast(NamedTuple):
@@ -173,31 +170,26 @@ class Finding:
         self,
         asked: Mapping[str, Asked],
         kept: str,
-        function: Answered,
+        function: Callable[..., Offer],
         names: Mapping[str, str],
     ) -> Iterator[tuple[str, Offer]]:
-        """Yields in order the offers of items by name, which are kept in a store; `names` has their groups."""
+        """Returns in order the offers of items by name, which are kept in a store; `names` has their groups."""
         text = repr([(group, dataclasses.astuple(asked[group])) for group in asked])
         common = json.dumps([self.settings.common(self.part, self.prior), text])
-        with contextlib.closing(Store(self.folder.store(kept), Offer)) as offers:
-            work = Work(
-                offers,
-                lambda: ((name, self.read.digest(name, common)) for name in names),
-                self.item,
-                function,
-                (self.settings, self.prior, asked),
-                unit="offers",
-                load=load_compiler,
-            )
-            work.finish(self.means.workers(), shown=self.means.shown)
-            for name, _, offer in offers.answers():
-                if isinstance(offer, Offer):
-                    yield name, offer
+        return each_answer(
+            self.folder.store(kept),
+            Offer,
+            lambda: ((name, self.read.digest(name, common)) for name in names),
+            self.item,
+            (function, self.settings, self.prior, asked),
+            "offers",
+            self.means,
+        )
 
     def sums(self, asked: Mapping[str, Asked], kept: str) -> dict[str, Sums]:
         """Returns the sums of the offers of all groups by theory. Raises Refused if a group has none."""
         sums = {group: Sums() for group in asked}
-        for name, offer in self.offers(asked, kept, offer_asked, self.groups):
+        for name, offer in self.offers(asked, kept, offer_of, self.groups):
             sums[self.groups[name]].add(name, offer)
         for group, some in sums.items():
             if not some.asked:
@@ -255,7 +247,7 @@ class Finding:
             for group, place in places.items()
         }
         ordered = {name: names[name] for name in sorted(names)}
-        tried = dict(self.offers(asked, self.stores[-1], past_asked, ordered))
+        tried = dict(self.offers(asked, self.stores[-1], past_of, ordered))
         sizes = self.sizes_of(ordered)
         shares = dict[str, OnPast]()
         for group, some in drawn.items():
@@ -272,9 +264,7 @@ class Finding:
 
     def sizes_of(self, names: Mapping[str, str]) -> dict[str, float]:
         """Returns what items ask for by theory, of which it is kept."""
-        with contextlib.closing(
-            Store(self.folder.store(self.stores[0]), Offer)
-        ) as offers:
+        with Store(self.folder.store(self.stores[0]), Offer) as offers:
             answers = {name: offers.answer(name) for name in names}
         return {
             name: offer.asked
@@ -333,11 +323,9 @@ def prices_of(
     also if items change, unless they are to be learned `again`, or items are planned in another way. Raises Refused.
     """
     on = settled(settings)
-    common = on.common("", prior)
-    kept = json.loads(answers.fact(PRICES) or "null")
-    if kept and kept["common"] == common and not again:
-        return Prices.parse(kept["prices"])
-    prices = Finding(folder, read, on, prior, means).prices()
-    fact = {"common": common, "prices": dataclasses.asdict(prices)}
-    answers.keep_facts({PRICES: json.dumps(fact)})
-    return prices
+
+    def learned() -> Prices:
+        return Finding(folder, read, on, prior, means).prices()
+
+    basis = on.common("", prior)
+    return learned_once(answers, PRICES, Prices, basis, again, learned)

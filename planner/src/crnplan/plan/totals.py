@@ -176,8 +176,6 @@ class Totals:
         """Returns a row for each sum: figure, and value (money, items, or shares added up)."""
         import pandas as pd
 
-        import pandas as pd
-
         figures = sorted(self.parts)
         values = [self[figure] for figure in figures]
         return pd.DataFrame({"figure": figures, "value": values})

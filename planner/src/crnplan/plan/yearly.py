@@ -5,19 +5,51 @@ That is an approximation: what a month leaves on hand, or on order, the next one
 from __future__ import annotations
 
 import dataclasses
-from collections.abc import Callable, Iterable, Sequence
+from collections.abc import Iterable, Sequence
 from typing import NamedTuple
 
 import numpy as np
 
 from ..chances import Floats
 from ..read.item import NEW
-from .answer import BOUNDED, RUN, SAME, THEORY, UNCOMPARED, Answer, Figures, Month, Run
+from .answer import (
+    BOUNDED,
+    CHEAPER,
+    DEARER,
+    RUN,
+    SAME,
+    SERVICE,
+    THEORY,
+    UNCOMPARED,
+    UNDECIDED,
+    Answer,
+    Figures,
+    Month,
+    Run,
+)
 from .choice import CLOSE
 from .question import Question
 
-# Says what a policy is beside today's, by the saving and its ends.
-Verdict = Callable[[Question, Figures, float, float | None, float | None], str]
+
+def verdict_of(
+    question: Question,
+    today: Figures,
+    saving: float,
+    low: float | None,
+    high: float | None,
+) -> str:
+    """Returns the verdict on a policy that is not today's, by its saving, which is between both ends."""
+    share = question.aim
+    has_goal = share is not None or question.together is not None
+    if low is not None and low > 0:
+        return CHEAPER
+    if (
+        has_goal
+        and not question.has_backlog
+        and (question.met(today) < (share or 0.0) or saving < 0)
+    ):
+        return SERVICE
+    return DEARER if high is not None and high < 0 else UNDECIDED
 
 
 class Planned(NamedTuple):
@@ -68,14 +100,14 @@ class Year:
             return None
         return float(self.periods @ known / self.periods.sum())
 
-    def mean_figures(self, name: str, other: str = "chosen") -> Figures | None:
+    def mean_figures(self, name: str) -> Figures | None:
         """Returns the mean of the figures of a policy: see `mean_of`. None without the policy in the first month; in
         others another one takes its place."""
         if getattr(self.answers[0], name) is None:
             return None
         figures = list[Figures]()
         for answer in self.answers:
-            figures.append(getattr(answer, name) or getattr(answer, other))
+            figures.append(getattr(answer, name) or answer.chosen)
         return mean_of(figures, self.periods, self.asked)
 
     @property
@@ -92,7 +124,7 @@ class Year:
         changed: dict[str, object] = {**means}
         return dataclasses.replace(runs[0], **changed)
 
-    def verdict(self, answer: Answer, verdict_of: Verdict) -> str:
+    def verdict(self, answer: Answer) -> str:
         """Returns the verdict on a year with such means."""
         verdicts = {month.verdict for month in self.answers}
         for verdict in (UNCOMPARED, NEW, BOUNDED):
@@ -110,7 +142,7 @@ class Year:
         return verdict_of(question, answer.today, answer.saving, low, high)
 
 
-def over_year(months: Sequence[Planned], verdict_of: Verdict) -> Answer:
+def over_year(months: Sequence[Planned]) -> Answer:
     """Returns the answer to the first month of an item that is planned by its season, with means of the year in place of
     the figures of that month, and with the calendar of levels."""
     year, (question, first) = Year(months), months[0]
@@ -146,4 +178,4 @@ def over_year(months: Sequence[Planned], verdict_of: Verdict) -> Answer:
         calendar=tuple(month.row for month in months),
         cost_promised=year.mean(one.cost_promised for one in year.answers),
     )
-    return dataclasses.replace(answer, verdict=year.verdict(answer, verdict_of))
+    return dataclasses.replace(answer, verdict=year.verdict(answer))

@@ -18,7 +18,7 @@ from ..store.files import IN_KEPT, Folder, faults_of, own_folder
 from ..store.means import Means
 from ..money import MOST_DECIMALS, Currency
 from ..remarks import Remark, Value
-from ..store.stored import Cell, check_whole, quoted, reading
+from ..store.stored import Cell, Opened, check_whole, quoted, reading
 from ..words import message
 from .blocks import Sizes
 from .choosing import said_of_marks
@@ -51,7 +51,7 @@ READ = f"{IN_KEPT}catalogue.sqlite"
 OVERRIDE_KIND = "override_kind"  # the first column of an override
 
 
-class Catalogued:
+class Catalogued(Opened):
     """What was read of a catalogue: its items in order of their names, what was left out, and facts by name."""
 
     def __init__(
@@ -132,7 +132,7 @@ class Catalogued:
 
     def values(self, *fields: str) -> Iterator[tuple[Any, ...]]:
         """Yields some facts of all items in order, each of which has one column."""
-        reads = [dict(ITEM.parts)[field].read for field in fields]
+        reads = [ITEM.parts[field][-1].read for field in fields]
         for cells in self.cells(*fields):
             yield tuple(
                 None if cell is None else read(cell) for read, cell in zip(reads, cells)
@@ -182,9 +182,6 @@ class Catalogued:
                     f"SELECT * FROM items WHERE {OVERRIDE_KIND} IS NOT NULL"
                 )
                 yield from map(ITEM.value, rows)
-
-    def close(self) -> None:
-        self.base.close()
 
 
 class Writer:

@@ -10,7 +10,7 @@ import typing
 from collections.abc import Callable, Iterable, Iterator, Mapping, Sequence
 from fractions import Fraction
 from pathlib import Path
-from typing import Any, Generic, TypeVar
+from typing import Any, Generic, Self, TypeVar
 
 import numpy as np
 
@@ -142,9 +142,8 @@ class Columns(Generic[Row]):
     def __init__(self, kind: type[Row], name: str = "") -> None:
         self.kind = kind
         self.names = [name]
-        self.parts = list[tuple[str, Columns[Any]]]()
         # By field: the place of its first cell, the one after its last, and its columns.
-        self.slots = list[tuple[int, int, Columns[Any]]]()
+        self.parts = dict[str, tuple[int, int, Columns[Any]]]()
         if dataclasses.is_dataclass(kind) and kind is not Remark:
             self._add_fields(name)
         else:
@@ -160,8 +159,7 @@ class Columns(Generic[Row]):
             part = Columns[Any](kind, f"{name}_{field}" if name else field)
             start = len(self.names)
             self.names += part.names
-            self.parts.append((field, part))
-            self.slots.append((start, len(self.names), part))
+            self.parts[field] = start, len(self.names), part
 
     def insert(self, table: str) -> str:
         """Returns what has SQL add the cells of a value to a table with these columns."""
@@ -172,7 +170,7 @@ class Columns(Generic[Row]):
         if value is None:
             return [None] * len(self.names)
         cells = list[Cell]()
-        for field, part in self.parts:
+        for field, (_, _, part) in self.parts.items():
             content = getattr(value, field)
             # A catalogue has a hundred cells an item, most of them without parts: these are made here, which is fast.
             if part.parts:
@@ -206,7 +204,7 @@ class Columns(Generic[Row]):
         if cells[0] is None:
             return typing.cast(Row, None)
         values = list[Any]()
-        for start, stop, part in self.slots:
+        for start, stop, part in self.parts.values():
             if part.parts:
                 values.append(part.value(cells[start:stop]))
             elif cells[start] is None:
@@ -246,7 +244,22 @@ def sealed(kind: type[Row], name: str, digest: str, answer: Row | Remark) -> Sea
     return Sealed(name, digest, seal_of(name, digest, cells), cells)
 
 
-class Store(Generic[Row]):
+class Opened:
+    """A file of SQLite that is open until `close`, or until the end of a block."""
+
+    base: sqlite3.Connection
+
+    def __enter__(self) -> Self:
+        return self
+
+    def __exit__(self, *fault: object) -> None:
+        self.close()
+
+    def close(self) -> None:
+        self.base.close()
+
+
+class Store(Opened, Generic[Row]):
     """Answers by name in a file of SQLite, and facts: texts by name.
 
     An answer is a value, or the fault for which there is none. It is kept with the digest of all that it depends on. So
@@ -433,6 +446,3 @@ class Store(Generic[Row]):
     ) -> Iterator[tuple[str, str, Row | Remark]]:
         for row in self._rows(quoted(self._names()), where, values):
             yield row[0], row[1], self._answer(row)
-
-    def close(self) -> None:
-        self.base.close()

@@ -313,7 +313,7 @@ class Cases:
             high = max(theory.after.high, feasible.least_point // step)
         self.width = high + 3
         levels = step * np.arange(self.gaps[-1] + self.width)
-        self.levels = np.unique(np.minimum(levels, feasible.top)) / step
+        self.levels = np.unique(np.minimum(levels, feasible.most_level)) / step
         self.asked, self.ranks = np.unique(costs[2] / costs[1], return_inverse=True)
         self.best = np.full(len(self.ranks), np.inf)
         self.found = np.zeros((4, len(self.ranks)))

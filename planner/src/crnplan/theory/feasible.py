@@ -31,18 +31,13 @@ class Feasible:
         return self.most_level == ALL.most_level
 
     @property
-    def top(self) -> int:
-        """Returns the greatest S."""
-        return min(self.most_level, MOST_ITEMS)
-
-    @property
     def widest(self) -> int:
         """Returns the greatest S - s; below 0 if no S is as high as the least s."""
-        return min(self.top - self.least_point, self.most_gap)
+        return min(self.most_level - self.least_point, self.most_gap)
 
     def top_of(self, point: int) -> int:
         """Returns the greatest S of an s that may be chosen."""
-        return min(self.top, point + self.most_gap)
+        return min(self.most_level, point + self.most_gap)
 
     def gap(self, least: Places) -> Places:
         """Returns the least S - s that may be chosen, and that are at least so many items."""
@@ -60,7 +55,9 @@ class Feasible:
 
     def has(self, point: Any, level: Any) -> Any:
         """Returns whether pairs may be chosen, whatever S - s is."""
-        return (self.least_point <= point) & (point <= level) & (level <= self.top)
+        return (
+            (self.least_point <= point) & (point <= level) & (level <= self.most_level)
+        )
 
     def allows(self, point: int, level: int) -> bool:
         """Returns whether a pair may be chosen."""

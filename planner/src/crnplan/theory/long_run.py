@@ -270,7 +270,7 @@ class LongRun(Figured):
         last = max(int(self.floor(gaps[-1])), width - above + self.after.high) + 1
         cells = np.arange(above - origin, above + last + 1)
         table = self.figures_from(self.step * cells, is_nested)
-        top = feasible.top if feasible else MOST_LEVEL
+        top = feasible.most_level if feasible else MOST_LEVEL
         return walked(
             gaps,
             leasts,
@@ -335,7 +335,7 @@ class LongRun(Figured):
             looked = looked[self.floors(sought.share, gaps[looked]) <= CLOSE * known]
         # A gap has no level if the best of all is above the greatest S of all.
         is_cut = self.feasible.has_all_levels and not sought.to_the_top
-        cut = self.feasible.top if is_cut else MOST_LEVEL
+        cut = self.feasible.most_level if is_cut else MOST_LEVEL
         base = self.holding * (sought.lowest - self.offset)
         start = 0
         for some in self.parts(gaps[looked]):
@@ -449,7 +449,7 @@ class LongRun(Figured):
     def fullest(self) -> Candidate:
         """Returns the feasible policy that meets most demand at once, and has the fewest periods with a shortage: that of
         the greatest S and the least gap."""
-        return self.policy(self.feasible.gap(0) // self.step, self.feasible.top)
+        return self.policy(self.feasible.gap(0) // self.step, self.feasible.most_level)
 
     def nearest(self, share: float) -> Candidate:
         """Returns the cheapest feasible policy that meets a share, or the one that meets most."""

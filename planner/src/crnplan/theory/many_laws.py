@@ -21,7 +21,6 @@ from typing import NamedTuple
 import numpy as np
 
 from ..chances import Floats
-from ..errors import Refused
 from ..law import Law
 from ..policies import Policy
 from ..scenario import ScenarioData
@@ -236,30 +235,16 @@ class Promises:
         scenario: ScenarioData,
         theory: LongRun,
         gap: int,
-        laws: Sequence[Law],
-        leads: Sequence[Law],
+        laws: Iterable[tuple[Law, Law]],
         shares: Sequence[float],
         confidence: float = CONFIDENCE,
     ) -> None:
-        """Takes laws of demand and, perhaps, as many of lead times, which belong together one by one.
-
-        `theory` is that of the scenario, and `gap` that of a good policy, in its cells. Raises Refused if there is no
-        law, if the numbers differ, or if the confidence is not above 0 and at most 1.
-        """
-        if not laws or len(leads) not in (0, len(laws)):
-            raise Refused(
-                f"there are {len(laws)} laws of demand and {len(leads)} of lead times; give as many of both"
-            )
-        if not 0 < confidence <= 1:
-            raise Refused(
-                f"the confidence is {confidence:g}; it is above 0, and at most 1"
-            )
+        """Takes laws, each of demand and of lead times. `theory` is that of the scenario, and `gap` that of a good
+        policy, in its cells. The confidence is above 0, and at most 1."""
         self.theory = theory
         self.shares = shares
         self.confidence = confidence
-        scenarios = [
-            *under_laws(scenario, zip(laws, leads or [scenario.lead] * len(laws)))
-        ]
+        scenarios = [*under_laws(scenario, laws)]
         self.step = self.step_for(
             [shape for _, shape in scenarios if shape], gap * theory.step
         )
@@ -270,7 +255,7 @@ class Promises:
                 made = theory_on(own, shape, self.step, self.exact)
                 self.made[place] = made.counting(theory.counts_periods)
         self.theories = [*self.made.values()]
-        self.lacking = len(laws) - len(self.theories)
+        self.lacking = len(scenarios) - len(self.theories)
         self.levels = dict[tuple[int, int], dict[float, int]]()
 
     def step_for(self, shapes: Sequence[Shape], span: int) -> int:

@@ -155,7 +155,7 @@ def chosen_policies(
         chosen.add("same_s", theory.best_with_point(today.s), Remark("today's s"))
         chosen.add("same_S", theory.best_with_level(today.S), Remark("today's S"))
     add_fills(chosen, theory, promises)
-    gap = theory.gap_of(best.point, best.level)
+    gap = theory.gap_of(*best.levels)
     for name, factor in ORDERS.items():
         bound = max if factor > 1 else min
         changed = bound(round(gap * factor), gap + (1 if factor > 1 else -1))
@@ -207,16 +207,6 @@ def table_of(
     return DataTable.of(columns, rows, index=index)
 
 
-def figures_said(unit: float, step: int, error: float | None) -> list[Remark]:
-    """Returns what figures by theory mean: what items cost a period beside them, and what is known of their error."""
-    remarks = [Remark("figures of suggestions", {"unit": unit})]
-    if error is None:
-        return [*remarks, Remark("exact figures")]
-    kind = "rough figures" if error > ROUGH else "rounded figures"
-    facts = {"step": step, "error": max(error, 1e-4), "twice": 2 * step}
-    return [*remarks, Remark(kind, facts)]
-
-
 @dataclass(frozen=True, eq=False, repr=False)
 class ByTheory(Result):
     """Policies with their figures of a period in the long run, by theory: cost (money, without `unit`), fill and short
@@ -248,58 +238,58 @@ class ByTheory(Result):
         return table_of(self.rows, FIGURES, index="policy")
 
     @property
-    def notes(self) -> str:
-        """Returns what the figures mean, and what is known of their error."""
+    def said(self) -> list[Remark]:
+        """Returns what the figures mean: what items cost a period beside them, and what is known of their error."""
         unit = self.scenario.money(self.scenario.costs.unit * self.net)
-        said = map(sentence, figures_said(unit, self.step, self.error))
-        return "\n".join(["", BY_ITS_LAWS, *said, ""])
+        remarks = [Remark("figures of suggestions", {"unit": unit})]
+        if self.error is None:
+            return [*remarks, Remark("exact figures")]
+        kind = "rough figures" if self.error > ROUGH else "rounded figures"
+        facts = {"step": self.step, "error": max(self.error, 1e-4)}
+        return [*remarks, Remark(kind, facts | {"twice": 2 * self.step})]
+
+    @property
+    def notes(self) -> str:
+        """Returns the lines below the table."""
+        return "\n".join(["", BY_ITS_LAWS, *map(sentence, self.said), ""])
 
 
-def figured(
+def figures_of(
     scenario: ScenarioData,
-    policies: Iterable[Policy],
+    policies: Iterable[tuple[Policy, Sequence[Remark]]],
     theory: LongRun,
     coarse: LongRun | None,
-) -> Iterator[tuple[Figures, float | None]]:
-    """Yields the figures of policies by the theory of a scenario, each with about the relative error of its cost by a
-    coarser theory; None without one."""
-    for policy in policies:
-        figures, error = theory.figures(policy.s, policy.S), None
+) -> ByTheory:
+    """Returns the figures of policies, each with the reasons for it, by the theory of a scenario, perhaps with about the
+    relative error of their costs by a coarser theory."""
+    rows, errors = list[Suggestion](), list[float]()
+    for policy, reasons in policies:
+        figures = theory.figures(policy.s, policy.S)
         if coarse:
             cost = coarse.figures(policy.s, policy.S).cost
-            error = abs(cost - figures.cost) / figures.cost
-        yield figures._replace(cost=scenario.money(figures.cost)), error
+            errors.append(abs(cost - figures.cost) / figures.cost)
+        figures = figures._replace(cost=scenario.money(figures.cost))
+        rows.append(Suggestion(policy, tuple(reasons), figures))
+    net, error = theory.net.mean * theory.step, max(errors, default=None)
+    return ByTheory(scenario, tuple(rows), theory.step, error, net)
 
 
 def by_theory(scenario: ScenarioData, policies: Sequence[Policy]) -> ByTheory:
     """Returns the figures of policies by the theory of a scenario. Raises NoTheory."""
     widest = max(policy.S - policy.s for policy in policies)
-    theory, coarse = theories_of(scenario, widest)
-    rows, errors = list[Suggestion](), list[float]()
-    known = figured(scenario, policies, theory, coarse)
-    for policy, (figures, error) in zip(policies, known):
-        rows.append(Suggestion(policy, (), figures))
-        errors += [] if error is None else [error]
-    net = theory.net.mean * theory.step
-    most = max(errors, default=None)
-    return ByTheory(scenario, tuple(rows), theory.step, most, net)
+    pairs = [(policy, ()) for policy in policies]
+    return figures_of(scenario, pairs, *theories_of(scenario, widest))
 
 
 @dataclass(frozen=True, eq=False, repr=False)
-class Suggestions(Result):
+class Suggestions(ByTheory):
     """The suggested policies of a scenario, today's first, and what is known of their figures.
 
-    Demand is counted in steps of `step` items. `error` bounds the relative error of the costs, about; it is None if
-    they are exact but for rounding. `position` is the best policy's mean inventory position at the beginning of a
-    period, and `net` the mean net demand of a period, both in items. `remarks` say how policies were found.
+    `position` is the best policy's mean inventory position at the beginning of a period, in items. `remarks` say how
+    policies were found.
     """
 
-    scenario: ScenarioData
-    rows: tuple[Suggestion, ...]
-    step: int
-    error: float | None
     position: float
-    net: float
     remarks: tuple[Remark, ...]
 
     @property
@@ -335,17 +325,15 @@ class Suggestions(Result):
         }
 
     @property
-    def notes(self) -> str:
-        """Returns the lines below the table: what its columns mean, and what is known of the error and of a run."""
-        unit = self.scenario.money(self.scenario.costs.unit)
-        remarks = figures_said(unit * self.net, self.step, self.error)
+    def said(self) -> list[Remark]:
+        """Returns what the columns mean, and what is known of the error and of a run."""
+        remarks = [*super().said, *self.remarks]
         start = {"mean": self.position, "today": self.scenario.initial}
-        remarks += self.remarks
         if self.scenario.has_initial:
             remarks.append(Remark("initial", {**start, "initial": self.initial}))
-        if unit > 0:
+        if self.scenario.costs.unit > 0:
             remarks.append(Remark("unit of a run"))
-        return "\n".join(["", BY_ITS_LAWS, *map(sentence, remarks), ""])
+        return remarks
 
     def toml(self, *, initial: bool = False, unit_zero: bool = False) -> str:
         """Returns the scenario with the suggested policies as TOML, each with its reasons and its cost as a comment.
@@ -368,21 +356,11 @@ def suggestions_of(scenario: ScenarioData) -> Suggestions:
     theory, coarse = theories_of(scenario)
     best = theory.best()
     chosen = chosen_policies(scenario, theory, best)
-    rows, errors = list[Suggestion](), list[float]()
-    known = [policy for policy, _ in chosen.policies.values()]
-    for (policy, reasons), (figures, error) in zip(
-        chosen.policies.values(), figured(scenario, known, theory, coarse)
-    ):
-        rows.append(Suggestion(policy, tuple(reasons), figures))
-        errors += [] if error is None else [error]
+    found = figures_of(scenario, chosen.policies.values(), theory, coarse)
     return Suggestions(
-        scenario,
-        tuple(rows),
-        theory.step,
-        max(errors, default=None),
-        theory.mean_position(best.point, best.level),
-        theory.net.mean * theory.step,
-        (*remarks_of(theory, chosen), *below_0(theory, best)),
+        **vars(found),
+        position=theory.mean_position(*best.levels),
+        remarks=(*remarks_of(theory, chosen), *below_0(theory, best)),
     )
 
 

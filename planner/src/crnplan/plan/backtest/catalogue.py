@@ -106,8 +106,8 @@ def past_of(planned: PlannedFolder) -> Past | None:
         return None
     path, own = planned.read.path, dataclasses.asdict(uncorrected(planned.settings))
     with (
-        contextlib.closing(Store(planned.path / TESTS, Backtest)) as tests,
-        contextlib.closing(Catalogued(path, is_known=True, planned=WEIGHED)) as read,
+        Store(planned.path / TESTS, Backtest) as tests,
+        Catalogued(path, is_known=True, planned=WEIGHED) as read,
     ):
         if tests.fact(TESTED) is None:
             return None
@@ -134,8 +134,8 @@ def backtest_into(
     path = folder.path / READ
     with (
         faults_of(folder.path),
-        contextlib.closing(Records(path, walk.record, settings.window)) as read,
-        contextlib.closing(Store(folder.store(TESTS), Backtest)) as tests,
+        Records(path, walk.record, settings.window) as read,
+        Store(folder.store(TESTS), Backtest) as tests,
     ):
         lessons = Lessons.of(folder, tests, read, settings, walk, means)
         common = lessons.common(walk)

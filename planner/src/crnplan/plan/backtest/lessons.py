@@ -110,9 +110,8 @@ class Learning:
         """Returns the fill rates at which items would have aimed by their records alone, as `--correct` has them; or why
         they would not. What was tried is kept in the folder."""
         on = ways_of(self.settings)
-        common = on.common(f"record {self.read.record}", self.prior)
-        words = self.folder, self.read, on, self.prior, common, self.means
-        tried = tried_on(*words, OF_RECORDS)
+        words = self.folder, self.read, on, self.prior, self.means, OF_RECORDS
+        tried = tried_on(*words, f"record {self.read.record}")
         if len(tried) < LEAST_ITEMS:
             facts = {"items": len(tried), "least": LEAST_ITEMS}
             return Remark("not corrected", facts)

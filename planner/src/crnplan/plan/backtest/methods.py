@@ -18,7 +18,7 @@ from types import MappingProxyType
 from typing import Any, NamedTuple
 
 from ...demand.learning import Prior
-from ...errors import Refused, argument
+from ...errors import Refused
 from ...read.item import Item
 from ..aims import FILLS
 from ..answer import TODAY, Figures
@@ -66,12 +66,6 @@ class Walk:
         """Returns a walk whose window and least gain are as the plan has them, if they are not stated."""
         window = window or settings.window or cls.window
         return cls(record, every, window, least_gain or settings.least_gain)
-
-    def __post_init__(self) -> None:
-        for name in ("record", "every", "window"):
-            number = getattr(self, name)
-            if number < 1:
-                raise Refused(f"{argument(name, str(number))} is not at least 1")
 
     def stretches(self, periods: int) -> Iterator[tuple[int, int, int]]:
         """Yields for each plan the first period that it is made of, the first that it is for, and the one after it."""
@@ -244,7 +238,7 @@ def damped_of(walked: Walked) -> Run | None:
     return Run(levels, promises)
 
 
-def planned_of(walked: Walked, method: str) -> Run | None:
+def planned_of(method: str, walked: Walked) -> Run | None:
     """Returns the plan of the record by the laws of the kept one, in the way of a method; or the kept one if the item has no
     policy so. None if the records teach no such way."""
     way = walked.ways.get(method)
@@ -258,18 +252,6 @@ def planned_of(walked: Walked, method: str) -> Run | None:
         figures, _ = chosen(asked)
         question = asked
     return walked.run([Plan(question, figures, walked.happened.later)])
-
-
-def corrected_of(walked: Walked) -> Run | None:
-    """Returns the plan of the record that aims as the records of the catalogue make it: the kept one if the item wants no
-    fill rate; None without such aims."""
-    return planned_of(walked, CORRECTED)
-
-
-def together_of(walked: Walked) -> Run | None:
-    """Returns the plan of the record by the price of the item's class: the kept one if the item has none; None without
-    prices."""
-    return planned_of(walked, TOGETHER)
 
 
 def month_of(season: InSeason, number: int) -> Stretch:
@@ -355,8 +337,8 @@ METHODS = (
     Method(KEPT, kept_of),
     Method(REFITTED, refitted_of, is_changing=True),
     Method(DAMPED, damped_of, is_changing=True),
-    Method(CORRECTED, corrected_of),
-    Method(TOGETHER, together_of),
+    Method(CORRECTED, partial(planned_of, CORRECTED)),
+    Method(TOGETHER, partial(planned_of, TOGETHER)),
     Method(SEASONAL, seasonal_of, is_changing=True),
     Method(FOLLOWED, followed_of, is_changing=True),
     Method(SMOOTHED, smoothed_of, is_promising=False, is_changing=True),

@@ -24,7 +24,7 @@ from .curves import Curve, Reading
 from .estimates import ALARM, NO_BLOCK, Estimate, Ratio, error_of
 from .methods import KEPT, METHODS, Method
 from .one import Backtest
-from .outcomes import Outcome, Traced
+from .outcomes import Outcome
 
 if TYPE_CHECKING:
     from ..changes import Since
@@ -85,7 +85,7 @@ class Group:
     def _ratio(self, above: Floats, below: Floats) -> Ratio:
         return Ratio(above, below, self.items, self.blocks)
 
-    def outcomes(self, policy: str) -> list[Outcome]:
+    def outcomes(self, policy: str) -> list[Any]:
         """Returns what a policy comes to, by item."""
         return [getattr(test, policy) for test in self.tests]
 
@@ -133,7 +133,7 @@ class Group:
 
     def changes(self, policy: str) -> float:
         """Returns how often the levels of an item change in a period, by a policy."""
-        changes = sum(outcome.changes for outcome in self.outcomes(policy))
+        changes: int = sum(outcome.changes for outcome in self.outcomes(policy))
         return changes / len(self.items)
 
     def beside(self, policy: str) -> Ratio:
@@ -160,14 +160,9 @@ class Sides(Group):
 
     def __init__(self, tests: Sequence[Backtest]) -> None:
         super().__init__(tests)
-        self.sides = tests
         holding = np.array([test.holding for test in tests])
         self.holding: Floats = holding[self.items]
         self.setups = np.array([test.setup for test in tests])
-
-    def traced(self, method: str) -> list[Traced]:
-        """Returns what a method comes to, by item."""
-        return [getattr(test, method) for test in self.sides]
 
     def gained(self, method: str) -> Estimate:
         """Returns the share of demand that a method met at once more than the kept plan."""
@@ -176,7 +171,7 @@ class Sides(Group):
 
     def stock(self, method: str) -> Floats:
         """Returns the stock of a method by item and period, in money."""
-        return self.holding * joined(traced.stocks for traced in self.traced(method))
+        return self.holding * joined(traced.stocks for traced in self.outcomes(method))
 
     def more_stock(self, method: str) -> Estimate | None:
         """Returns what the stock of a method is above that of the kept plan, as a share; None if that has none."""
@@ -186,12 +181,12 @@ class Sides(Group):
 
     def orders(self, method: str) -> Floats:
         """Returns how many orders each item has in a period, by a method."""
-        orders: Floats = np.array([traced.orders for traced in self.traced(method)])
+        orders: Floats = np.array([outcome.orders for outcome in self.outcomes(method)])
         return orders
 
     def curve(self, method: str) -> Curve:
         """Returns what the aims of a method come to: demand in units of an item's own mean, stock in money."""
-        traced = self.traced(method)
+        traced = self.outcomes(method)
         unmet, stocks = list[Floats](), list[Floats]()
         for aim in range(len(traced[0].unmet_by_aim)):
             rows = joined(own.unmet_by_aim[aim] for own in traced)
