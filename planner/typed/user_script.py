@@ -59,7 +59,6 @@ def orders(plan: crn.Plan, stock: Frame) -> None:
     assert_type(plan.curve(fill=0.97), Drawn)
     assert_type(plan.curve().policies, Frame)
     assert_type(plan.curve().plot(), Picture)
-    assert_type(plan.curve().left_out.frame, Frame)
     assert_type(crn.exchange_curve("plan", orders=3.5), Drawn)
 
 
