@@ -1,14 +1,15 @@
 """Tests which policies stay after an earlier plan though another costs less: by costs of a Markov chain, and law by law."""
 from __future__ import annotations
 
+
 from collections.abc import Mapping
+from dataclasses import replace
 from pathlib import Path
 from typing import Any
 
 import pandas as pd
 import pytest
 
-from crnplan.plan.after import taken
 from crnplan.plan.choice import allowed_by
 from crnplan.plan.one import plan_one
 from crnplan.plan.how import Settings
@@ -121,7 +122,7 @@ def test_taken_over_is_what_would_be_planned(
             again = plan_one(
                 question_of(item, settings, OWN, earlier.chosen.levels), str(program)
             )
-            assert again == taken(earlier)
+            assert again == replace(earlier, before=earlier.chosen)
 
 
 def test_damped_policies_are_taken_over_by_the_same_gain_alone(

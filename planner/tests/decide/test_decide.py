@@ -22,10 +22,10 @@ from scipy import stats
 
 from crnplan.decide.reports import check_replications
 from crnplan.decide.verdicts import (
+    decided,
     estimates_of,
     own_variance,
     t_quantile,
-    with_intervals,
 )
 from crnplan.errors import Refused
 from crnplan.runs import Scenario
@@ -276,7 +276,7 @@ def test_intervals_are_those_of_the_costs_themselves(
         assert own_variance(row, rows[0], count) == statistics.variance(
             map(Fraction, drawn[row.policy])
         )
-    compared = with_intervals(rows, count, level)
+    compared = decided(rows, count, level).rows
     assert [it.diff for it in compared] == pytest.approx(
         sorted((sum(own) - sum(base)) / count for own in drawn.values())
     )
@@ -353,7 +353,7 @@ def test_estimates_are_those_of_the_costs_less_shifts(
 
 
 def test_a_single_replication_has_no_intervals() -> None:
-    for it in with_intervals(rows_of_costs({"p0": [7], "p1": [5]}, 1), 1, 0.95):
+    for it in decided(rows_of_costs({"p0": [7], "p1": [5]}, 1), 1, 0.95).rows:
         assert (it.std_error, it.low, it.high, it.cost_low, it.cost_high) == (None,) * 5
         assert it.verdict == ("base" if it.policy == "p0" else "undecided")
 

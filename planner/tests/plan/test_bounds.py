@@ -426,7 +426,7 @@ def test_candidates_of_the_curve(
         counts=tuple(size * count for count in SEEN),
     )
     feasible, scenario = question.theory.feasible, question.scenario()
-    most = min(feasible.top, 40 * size)
+    most = min(feasible.most_level, 40 * size)
     pairs, figures = list[tuple[int, int]](), list[list[float]]()
     mean = float(scenario.demand.mean)
     for gap in range(most + 1):

@@ -74,6 +74,7 @@ def test_nothing_is_left_or_too_little_is_drawn() -> None:
     assert estimated(np.zeros(3), np.zeros(3), np.ones(3), 5.0) == (0, math.inf)
     assert Estimate(20.0, 2.0).is_known()
     assert not Estimate(20.0, 2.1).is_known()
+    assert Estimate(0.001, 0.0004).is_known(0.0005)
     assert Estimate(-20.0, 2.0).plus(-5.0) == (-25, 2)
 
 

@@ -53,7 +53,7 @@ def pairs_of(theory: LongRun) -> Iterator[tuple[int, int]]:
         most = max(least, step * (gap + theory.after.high + 1))
         yield gap, least
         for cell in range(least // step + 1, most // step + 2):
-            yield gap, min(step * cell, feasible.top)
+            yield gap, min(step * cell, feasible.most_level)
 
 
 def figures_at(theory: LongRun, gap: int, level: int) -> Floats:
@@ -197,7 +197,7 @@ def test_search_with_several_lead_times(
         table = figures_by_level(demand, back, step, gap)
         cells = step * np.arange(table.shape[1])
         mine = np.arange(theory.items(gap) + feasible.least_point, cells[-1])
-        mine = mine[(mine <= feasible.top) | (mine == mine[0])]
+        mine = mine[(mine <= feasible.most_level) | (mine == mine[0])]
         by_level = np.array([np.interp(mine, cells, row) for row in table])
         totals = by_level.T @ [holding, price, order]
         least = np.minimum(least, totals.min(axis=0))

@@ -25,7 +25,7 @@ def best_of_gap(theory: LongRun, gap: int, share: float) -> tuple[int, float]:
     feasible, most = theory.feasible, theory.step * (CELLS - 1)
     cost, unmet, *_ = means_by_level(theory, gap, CELLS)
     least = theory.items(gap) + feasible.least_point
-    items = np.arange(least, min(most, feasible.top) + 1)
+    items = np.arange(least, min(most, feasible.most_level) + 1)
     cells = items / theory.step
     costs = np.interp(cells, np.arange(CELLS), cost)
     lacking = np.interp(cells, np.arange(CELLS), unmet)

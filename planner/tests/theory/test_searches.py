@@ -161,9 +161,9 @@ def test_promises_within_bounds(feasible: Feasible, lead: Weights) -> None:
     own = theory.cheapest_of_gaps([gap], share).level
     lower = found.point - 1, found.level - 1
     assert found.level == own or not is_kept(*lower)
-    above = own + 1 if own < feasible.top else 0
+    above = own + 1 if own < feasible.most_level else 0
     assert promises.policy(gap, own + 1, share).level == above
-    for level in range(plain.level, feasible.top + 1):
+    for level in range(plain.level, feasible.most_level + 1):
         if is_kept(level - width, level):
             assert found.cost <= theory.figures(level - width, level).cost + 1e-9
             break

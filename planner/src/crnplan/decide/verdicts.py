@@ -117,15 +117,6 @@ def far_from(
                 yield Gap(estimate.policy, figure, theory, run, error)
 
 
-def checked_level(level: float) -> float:
-    """Returns a level of confidence. Raises Refused if it is not between 0 and 1."""
-    if not 0 < level < 1:
-        raise Refused(
-            f"{argument('level', f'{level:g}')}: a level is between 0 and 1, as 0.95"
-        )
-    return level
-
-
 @functools.lru_cache
 def t_quantile(tails: float, degrees: int) -> float:
     """Returns the value that Student's |t| exceeds with probability `tails`, above 0, with so many degrees of freedom.
@@ -200,7 +191,11 @@ def ranked(
     more: Sequence[Sequence[float | None]] = (),
 ) -> tuple[Compared, ...]:
     """Returns compared policies, the cheapest first; `more` has the last fields of each. Raises Refused for a level."""
-    tails, joint, single = 1 - checked_level(level), 0.0, 0.0
+    if not 0 < level < 1:
+        raise Refused(
+            f"{argument('level', f'{level:g}')}: a level is between 0 and 1, as 0.95"
+        )
+    tails, joint, single = 1 - level, 0.0, 0.0
     policies = list[Compared]()
     if replications > 1:
         joint = t_quantile(tails / max(1, len(rows) - 1), replications - 1)
@@ -232,10 +227,8 @@ def ranked(
     return tuple(sorted(policies, key=lambda policy: policy.diff))
 
 
-def with_intervals(
-    rows: Sequence[Row], replications: int, level: float
-) -> tuple[Compared, ...]:
-    """Compares the policies of a report over its periods, the cheapest first. Raises Refused for a level."""
+def decided(rows: Sequence[Row], replications: int, level: float = 0.95) -> Decision:
+    """Compares all rows of a report with its first one. Raises Refused for a level that is not between 0 and 1."""
     base, estimates, percents = rows[0], list[Estimate](), list[float | None]()
     for row in rows:
         own = error = percent = None
@@ -248,7 +241,8 @@ def with_intervals(
         cost, difference = float(row.per_period), float(row.diff_mean)
         estimates.append(Estimate(row.policy, cost, own, difference, error, math.inf))
         percents.append(percent)
-    return ranked(rows, estimates, percents, level, replications)
+    policies = ranked(rows, estimates, percents, level, replications)
+    return Decision(policies, base.policy, replications, level)
 
 
 @dataclass(frozen=True, eq=False, repr=False)
@@ -359,10 +353,3 @@ class Decision(Result):
         tree["policies"] = self.table.records
         tree["warnings"] = [*map(sentence, self.warnings)]
         return tree
-
-
-def decided(rows: Sequence[Row], replications: int, level: float = 0.95) -> Decision:
-    """Compares all rows of a report with its first one. Raises Refused for a level that is not between 0 and 1."""
-    return Decision(
-        with_intervals(rows, replications, level), rows[0].policy, replications, level
-    )

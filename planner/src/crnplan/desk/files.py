@@ -131,8 +131,10 @@ def result_of(catalogue: Catalogue) -> dict[str, Any]:
             "controls": controls_of(read.controls(), decimals, currency),
             "sources": read.fact("sources"),
             "lateness": lateness_of(read),
-            "category": sorted({*read.values("category")} - {("",), (None,)}),
-            "supplier": sorted({*read.values("supplier")} - {("",), (None,)}),
+            **{
+                name: sorted({*read.values(name)} - {("",), (None,)})
+                for name in ("category", "supplier")
+            },
         }
 
 

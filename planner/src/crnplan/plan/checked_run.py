@@ -9,7 +9,6 @@ from __future__ import annotations
 import dataclasses
 import math
 from collections.abc import Mapping
-from typing import NamedTuple
 
 import numpy as np
 
@@ -135,19 +134,12 @@ def check_run(
         raise Disagreement(fault)
 
 
-class Checked(NamedTuple):
-    """A run that agrees with theory, and its estimates."""
-
-    run: Run
-    sample: Sample
-
-
 def checked_run(
     question: Question,
     levels: Levels,
     figures: Mapping[str, Figures],
     program: str,
-) -> Checked | None:
+) -> tuple[Run, Sample] | None:
     """Returns the run of today's policy and of the chosen one with some levels; None if crnsim can't run them. Raises
     Refused if the bias of the start is not known, Disagreement and ProgramError."""
     if question.item.review > 1:
@@ -155,7 +147,7 @@ def checked_run(
     report = scenario_of(question, levels).run(program=program)
     sample = Sample(question, report)
     check_run(question, report, sample, figures, program)
-    return Checked(run_of(question, report, sample), sample)
+    return run_of(question, report, sample), sample
 
 
 def run_of(question: Question, report: Report, sample: Sample) -> Run:

@@ -91,9 +91,9 @@ class Estimate(NamedTuple):
     value: float
     error: float = 0.0
 
-    def is_known(self) -> bool:
-        """Returns whether its standard error is at most a tenth of it."""
-        return self.error <= abs(self.value) / 10
+    def is_known(self, least: float = 0.0) -> bool:
+        """Returns whether its standard error is at most a tenth of it, or `least`."""
+        return self.error <= max(abs(self.value) / 10, least)
 
     def plus(self, amount: float) -> Estimate:
         return self._replace(value=self.value + amount)
