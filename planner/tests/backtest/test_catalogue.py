@@ -118,12 +118,12 @@ def test_rows_are_those_of_each_item(made: Path, items: Mapping[str, Item]) -> N
         test = backtest_one(items[name], own, Prior(NONE), walk)
         for policy in ("today", "kept", "refitted", "smoothed", "shuffled"):
             outcome = getattr(test, policy)
-            row = {
-                it: rows[name][f"{it}_{policy}"] for it in ("s", "S", "cost", "fill")
-            }
-            assert (int(row["s"]), int(row["S"])) == (outcome.point, outcome.level)
-            assert float(row["cost"]) == pytest.approx(outcome.cost, abs=0.006)
-            assert float(row["fill"]) == pytest.approx(outcome.fill, abs=6e-5)
+            cost, fill, stock = (
+                float(rows[name][f"{it}_{policy}"]) for it in ("cost", "fill", "stock")
+            )
+            assert cost == pytest.approx(outcome.cost, abs=0.006)
+            assert fill == pytest.approx(outcome.fill, abs=6e-5)
+            assert stock == pytest.approx(outcome.stock, rel=1e-4)
 
 
 def test_items_as_they_were_at_the_end_of_their_records(made: Path) -> None:
@@ -234,7 +234,7 @@ def test_no_item_in_sums(items: Mapping[str, Item], tmp_path: Path) -> None:
     row, _ = csv.DictReader(tests.table.csv.splitlines())
     assert row["item"] == "I-000"
     assert float(row["cost_kept"]) > 0
-    assert row["S_shuffled"] == row["cost_shuffled"] == ""
+    assert row["fill_shuffled"] == row["cost_shuffled"] == ""
     assert "No item has a test" in tests.page
     assert "Met at once in time" not in tests.page
 

@@ -62,7 +62,7 @@ def test_nothing_has_changed(month: Month) -> None:
         and set(changes.why) == {""}
         and set(changes.gain) == {0.0}
     )
-    assert changes.periods_since.isna().all() and len(changes) == ITEMS
+    assert changes.demand_since.isna().all() and len(changes) == ITEMS
     assert f"{ITEMS} same, 0 moved, 0 damped, 0 new, 0 gone" in again.text
 
 
@@ -101,7 +101,7 @@ def test_unchanged_items_are_not_planned(
         and f"1 items planned, {ITEMS - 1} kept from before" in answer.errors
     )
     changes = of_frame(crn.open_plan("plan").changes)
-    assert changes.codes[changes.codes != ""].to_dict() == {"I-003": "other master"}
+    assert [*changes.index[changes.why != ""]] == ["I-003"]
     assert (
         changes.why["I-003"] == "setup 23 to 230" and changes.change["I-003"] == "moved"
     )
@@ -113,8 +113,8 @@ def test_levels_are_those_of_both_plans(month: Month) -> None:
     pd.testing.assert_frame_equal(after, whole_frame(crn.plan(**month.until(WEEKS))))
     old, new, changes = month.earlier, of_frame(after), month.changes()
     for table, when in ((old, "before"), (new, "after")):
-        names = [f"s_{when}", f"S_{when}", f"mean_{when}"]
-        wanted = table.loc[changes.index, [*LEVELS, "demand"]]
+        names = [f"s_{when}", f"S_{when}"]
+        wanted = table.loc[changes.index, LEVELS]
         assert changes[names].to_numpy().tolist() == wanted.to_numpy().tolist()
     moved = (old[LEVELS] != new[LEVELS]).any(axis=1)
     kinds = moved.map({False: "same", True: "moved"})[changes.index]
@@ -199,7 +199,6 @@ def test_what_came_of_the_earlier_plan(month: Month, dozen: Mapping[str, Item]) 
     old, since, tested = month.earlier, WEEKS - BEFORE, 0
     for name, row in month.changes().iterrows():
         item, (s, S) = dozen[str(name)], (int(row.s_before), int(row.S_before))
-        assert row.periods_since == since
         assert row.demand_since == sum(item.counts[BEFORE:])
         assert row.promised_cost == pytest.approx(old.cost_chosen[name])
         assert row.promised_fill == old.fill_chosen[name]

@@ -22,7 +22,7 @@ START, WEEKS = datetime.date(2024, 12, 2), 60  # a Monday
 SETTINGS: dict[str, Any] = {"periods": 48, "replications": 6, "least": 13, "jobs": 1}
 # Columns of decisions that are amounts of money, those that count items, and others.
 MONEY = "cost_today cost_chosen saving run_saving run_low".split()
-MONEY += "run_high value_today value_chosen cost_confidence cost_alone".split()
+MONEY += "run_high value_today value_chosen cost_alone".split()
 ITEMS = "s_today S_today s_chosen S_chosen".split()
 ITEMS += "stock_today stock_chosen s_alone S_alone demand".split()
 SHARES = "fill_wanted fill_today fill_chosen fill_alone".split()

@@ -220,7 +220,7 @@ def test_levels_of_a_planner(room: Path, tmp_path: Path, program: Path) -> None:
         name for name in plan.decisions["item"] if "warm" in name
     } - {"warm-21"}
     row = whole_frame(plan).set_index("item").loc["warm-21"]
-    assert (row["s_override"], row["S_override"]) == (5, 99) and row["fill_override"]
+    assert (row["s_override"], row["S_override"]) == (5, 99)
 
 
 def test_orders_of_a_day(room: Path) -> None:

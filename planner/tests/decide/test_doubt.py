@@ -43,9 +43,7 @@ def test_columns(by_hand: Doubt) -> None:
     for row, wanted in zip(table, CASES["rows"], strict=True):
         assert {name: row[name] for name in wanted} == pytest.approx(wanted)
     assert [*by_hand.frame] == [*list(table[0])[1:]]
-    assert (
-        "\ntoday   15  40  106.20   4.00%     10.00%     60%  97.00%" in by_hand.text
-    )
+    assert "\ntoday   15  40  106.20   4.00%     10.00%     60%  97.00%" in by_hand.text
 
 
 def test_figures_are_those_of_each_law(part: crn.Scenario) -> None:

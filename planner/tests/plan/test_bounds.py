@@ -387,15 +387,14 @@ def test_bounds_of_a_catalogue(crnplan: Command, tmp_path: Path, program: Path) 
     answer = crnplan(*words.split())
     decisions = whole_rows(tmp_path / "plan")
     with planned_folder(tmp_path / "plan") as plan:
-        settings = plan.settings
+        settings, totals = plan.settings, plan.totals
     assert (settings.order_min, settings.max_coverage, settings.s_min) == (3, 8, 2)
     # The mean demand is 1 a week.
     assert decisions["A"]["S_chosen"] == "8"
     assert int(decisions["B"]["S_chosen"]) > 8
-    cost = decisions["A"]["cost_coverage"]
-    assert float(cost) > 0
-    assert not decisions["B"]["cost_coverage"]
-    said = f"S, or S less s, may cover no more periods of demand: 1 items, which costs {float(cost):.2f} a week"
+    cost = totals["coverage_cost"]
+    assert cost > 0 and totals.covered == 1
+    said = f"S, or S less s, may cover no more periods of demand: 1 items, which costs {cost:.2f} a week"
     assert said in answer.output
     page = (tmp_path / "plan/report.html").read_text("utf-8")
     assert "no more periods of demand for 1 items" in page

@@ -25,7 +25,7 @@ from crnplan.remarks import Remark
 from crnplan.theory.lattice import NoTheory
 from crnplan.words import sentence
 from planner.tests.plan.items import SHORT, item_of
-from planner.tests.theory.long_run_costs import cost_of, fills_of, shortfall_of
+from planner.tests.theory.long_run_costs import fills_of, shortfall_of
 
 ALL, BY_CLASS = Settings(borrow="all", **SHORT), Settings(borrow="class", **SHORT)
 
@@ -46,12 +46,11 @@ def new(*counts: int, **changed: Any) -> Item:
 def test_a_new_item(
     prior: Prior, program: Path, counts: tuple[int, ...], levels: tuple[int, int] | None
 ) -> None:
-    """It has the policy of its learned law, and the range of what that costs under the laws that it allows: a tenth of them
-    below, a tenth above. Its page stands with no period too."""
+    """It has the policy of its learned law, and the range of what that meets under the laws that it allows. Its page stands
+    with no period too."""
     question = question_of(new(*counts, levels=levels), ALL, prior)
     answer = plan_one(question, str(program))
-    theory, scenario = question.theory, question.for_theory()
-    best = theory.best()
+    best = question.theory.best()
     assert answer.verdict == NEW
     assert answer.chosen.levels == (best.point, best.level)
     assert answer.alone is None
@@ -59,20 +58,8 @@ def test_a_new_item(
     assert answer.law.family == "borrowed"
     remark, *others = answer.remarks
     assert (remark.code, remark.facts["periods"], others) == ("new", len(counts), [])
-    shortfalls = [replace(scenario, demand=law) for law, _ in allowed_by(question)]
-    gap = answer.chosen.level - answer.chosen.point
-    costs = [
-        cost_of(own, shortfall_of(own, gap), answer.chosen.level)
-        / float(question.scale)
-        for own in shortfalls
-    ]
-    allowed = answer.allowed
-    assert allowed
-    assert [allowed.cost_low, allowed.cost_high] == pytest.approx(
-        np.quantile(costs, [0.1, 0.9]), rel=1e-5
-    )
-    assert 0 < allowed.fill_low < answer.chosen.fill < 1
-    assert allowed.fill_low < allowed.fill_high <= 1
+    assert 0 < remark.facts["low"] < answer.chosen.fill < 1
+    assert remark.facts["low"] < remark.facts["high"] <= 1
     words = ItemWords(Depth(question, answer, str(program)), "week", Currency())
     assert ": a new item" in item_summary(words).splitlines()[0]
     assert ("no week of the record" in item_page(words)) == (not counts)
@@ -89,12 +76,9 @@ def test_a_new_item_without_a_backlog_cost(prior: Prior, program: Path) -> None:
         scenario = replace(question.for_theory(), demand=law)
         shortfall = shortfall_of(scenario, level - point)
         fills += fills_of(scenario, shortfall, np.array([level])).tolist()
-    allowed = answer.allowed
-    assert allowed
-    assert (allowed.cost_low, allowed.cost_high) == (None, None)
-    assert [allowed.fill_low, allowed.fill_high] == pytest.approx(
-        np.quantile(fills, [0.1, 0.9]), rel=1e-5
-    )
+    facts = answer.remarks[0].facts
+    ends = np.quantile(fills, [0.1, 0.9])
+    assert [facts["low"], facts["high"]] == pytest.approx(ends, rel=1e-5)
 
 
 @pytest.mark.parametrize(
@@ -168,7 +152,6 @@ def test_a_new_item_whose_laws_have_no_long_run(
 
     monkeypatch.setattr(one, "figures_of_laws", none)
     answer = plan_one(question_of(new(0, 2), ALL, prior), str(program))
-    assert answer.allowed is None
     assert (
         sentence(answer.remarks[0])
         == "new, with 2 periods: its law is that of all items"

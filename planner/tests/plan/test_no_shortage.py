@@ -162,9 +162,9 @@ def test_decisions_and_pages(plan: crn.Plan, tmp_path: Path) -> None:
     goals = rows.iloc[:3]
     assert goals.no_shortage_wanted.tolist() == [0.95, 0.9, 0.99]
     assert (goals.no_shortage_chosen >= goals.no_shortage_wanted).all()
-    assert goals.fill_wanted.isna().all() and goals.no_shortage_today.notna().all()
+    assert goals.fill_wanted.isna().all()
     others = rows.iloc[3:].filter(like="no_shortage")
-    assert others.isna().all(axis=None) and len(others.columns) == 3
+    assert others.isna().all(axis=None) and len(others.columns) == 2
     totals = plan.totals
     assert totals.by_periods == 3
     mean = goals.no_shortage_chosen.mean()

@@ -49,12 +49,12 @@ def today_of(
 
 @pytest.mark.parametrize("case", CASES["risks"], ids=str)
 def test_risk_by_hand(case: dict[str, Any]) -> None:
-    """The chance of a shortage before the next receipt is known if what is overdue comes in time, and without it."""
+    """The chance of a shortage before the next receipt is without what is overdue, or has no date."""
     risk = Risk(standing_of(**facts_of(case["item"])))
-    until, late, *chances, short = case["risk"]
+    until, late, chance, short = case["risk"]
     assert (risk.days, risk.days_late) == (pytest.approx(until), late)
-    found = [risk.chance, risk.chance_without, risk.short]
-    assert found == pytest.approx([*chances, short])
+    found = risk.chance_without, risk.short
+    assert found == pytest.approx((chance, short))
     assert risk.value == pytest.approx(3 * short)
 
 

@@ -112,21 +112,13 @@ class LongRunReport(Result):
             orders.append(rate * periods * self.replications)
         return estimates_of(self.rows, self.replications, periods, self.shifts, orders)
 
-    @cached_property
-    def effects(self) -> list[float | None]:
-        """Returns in standard errors what the start adds to each difference; None if that has no error."""
-        effects = list[float | None]()
-        for row, shift in zip(self.rows, self.shifts):
-            error = math.sqrt(row.diff_var or 0) / self.scenario.periods
-            effects.append((shift - self.shifts[0]) / error if error else None)
-        return effects
-
     @property
     def strong(self) -> list[str]:
-        """Returns the policies for which that is too much for intervals of the long run."""
+        """Returns the policies to whose difference the start adds too much for intervals of the long run."""
         names = []
-        for row, effect in zip(self.rows, self.effects):
-            if effect and abs(effect) > MOST_EFFECT:
+        for row, shift in zip(self.rows, self.shifts):
+            error = math.sqrt(row.diff_var or 0) / self.scenario.periods
+            if abs(shift - self.shifts[0]) > MOST_EFFECT * error > 0:
                 names.append(row.policy)
         return names
 
@@ -150,12 +142,11 @@ class LongRunReport(Result):
             `frame` has a row for each policy.
         """
         base, costs = self.estimates[0].cost, self.bias.costs
-        percents, theory = list[float | None](), []
-        for own, cost, effect in zip(self.estimates, costs, self.effects):
+        percents = list[float | None]()
+        for own in self.estimates:
             percents.append(100 * own.difference / base if base else None)
-            theory.append((cost, effect))
         policies = ranked(
-            self.rows, self.estimates, percents, level, self.replications, theory
+            self.rows, self.estimates, percents, level, self.replications, costs
         )
         scenario = self.scenario
         runs = Remark(

@@ -29,7 +29,7 @@ FEWEST_ORDERS = 2  # of the rarer policy of a comparison, in all replications
 # The columns over the periods of a report, and those in the long run.
 COLUMNS = columns_of("decide", "compared", span="replication")
 LONG_RUN_COLUMNS = columns_of("decide", "compared", span="period")
-MAY_LACK = "theory_cost", "effect"  # columns that stand if some policy has a figure
+THEORY_COST = "theory_cost"  # the column that stands if some policy has a figure
 MOST_ROWS = 20
 VERDICTS = {
     "better": "better than {}",
@@ -58,7 +58,6 @@ class Compared:
     high: float | None
     verdict: str
     theory_cost: float | None = None
-    effect: float | None = None
 
 
 class Estimate(NamedTuple):
@@ -188,9 +187,9 @@ def ranked(
     percents: Sequence[float | None],
     level: float,
     replications: int,
-    more: Sequence[Sequence[float | None]] = (),
+    theory: Sequence[float | None] = (),
 ) -> tuple[Compared, ...]:
-    """Returns compared policies, the cheapest first; `more` has the last fields of each. Raises Refused for a level."""
+    """Returns compared policies, the cheapest first, perhaps with costs by theory. Raises Refused for a level."""
     if not 0 < level < 1:
         raise Refused(
             f"{argument('level', f'{level:g}')}: a level is between 0 and 1, as 0.95"
@@ -200,8 +199,8 @@ def ranked(
     if replications > 1:
         joint = t_quantile(tails / max(1, len(rows) - 1), replications - 1)
         single = t_quantile(tails, replications - 1)
-    for row, own, percent, last in zip(
-        rows, estimates, percents, more or [()] * len(rows), strict=True
+    for row, own, percent, theory_cost in zip(
+        rows, estimates, percents, theory or [None] * len(rows), strict=True
     ):
         error = own.error if policies else None
         low, high = ends_of(own.difference, error, joint)
@@ -221,7 +220,7 @@ def ranked(
                 low,
                 high,
                 verdict,
-                *last,
+                theory_cost,
             )
         )
     return tuple(sorted(policies, key=lambda policy: policy.diff))
@@ -271,7 +270,7 @@ class Decision(Result):
     def _table_of(self, rows: Sequence[Compared]) -> DataTable:
         """Returns the table of some policies, without columns that may lack and have no figure."""
         columns = LONG_RUN_COLUMNS if self.runs else COLUMNS
-        return DataTable.of(columns, rows, index="policy").without_empty(MAY_LACK)
+        return DataTable.of(columns, rows, index="policy").without_empty([THEORY_COST])
 
     @property
     def listed(self) -> Sequence[Compared]:
@@ -310,17 +309,13 @@ class Decision(Result):
         """Returns what the columns mean."""
         if self.runs and self.theory:
             names, theory = self.table.names, sentence(self.theory)
-            effect = [
-                "effect: what the start had added to diff, in standard errors; it is taken out"
-            ]
             return [
                 f"cost to verdict: a period by crnsim, {sentence(self.runs)}; unit is left out",
                 "low to high: the interval of diff; all hold together at the joint level",
                 f"cost_low to cost_high: the interval of cost, each at {self.level:g} by itself",
                 f"theory_cost: a period of the long run by theory, {theory}"
-                if "theory_cost" in names
+                if THEORY_COST in names
                 else f"theory is {theory}",
-                *effect * ("effect" in names),
             ]
         if self.replications == 1:
             return [

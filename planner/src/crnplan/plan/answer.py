@@ -91,18 +91,6 @@ class Share:
 
 
 @dataclass(frozen=True)
-class Allowed:
-    """What the chosen policy of a new item meets at once, and costs in money of a period if the item has a backlog cost,
-    under laws that what it has learned allows: a tenth of them gives less than the low end, a tenth more than the high.
-    """
-
-    fill_low: float
-    fill_high: float
-    cost_low: float | None
-    cost_high: float | None
-
-
-@dataclass(frozen=True)
 class LawFacts:
     """The law of demand: its family, its share beside what was seen, the log10 of the Bayes factor for what it has
     learned from others (None if nothing), and its mean and standard deviation in items a period.
@@ -168,8 +156,7 @@ class Answer:
     Theory counts in steps of `step` boxes. `confidence_cost` is what the confidence in a wanted fill costs a period,
     None without one; `coverage_cost` is what it costs that S, or S - s, covers no more periods of demand, None if that
     does not bind. `cost_promised` is what the chosen policy is promised to cost by the past of the catalogue, None if
-    that was not tried. `correction` is None if the wanted fill is not corrected, `allowed` unless the item is new. `override`
-    is the policy that the planner has set, None if there is none. `share` is None if the item is planned by itself.
+    that was not tried. `correction` is None if the wanted fill is not corrected. `override` is the policy that the planner has set, None if there is none. `share` is None if the item is planned by itself.
 
     Of an item that is planned by its season, `calendar` has the levels of the coming year, month by month. Its costs,
     its savings and the figures of its policies are means over that year, each month as if it lasted, and its law is that
@@ -194,7 +181,6 @@ class Answer:
     laws: Laws
     run: Run | None
     remarks: tuple[Remark, ...]
-    allowed: Allowed | None = None
     override: Figures | None = None
     share: Share | None = None
     calendar: tuple[Month, ...] = ()

@@ -47,7 +47,6 @@ from .answer import (
     TODAY,
     UNCOMPARED,
     UNDAMPED,
-    Allowed,
     Answer,
     Correction,
     Figures,
@@ -111,22 +110,17 @@ def law_facts(law: FittedLaw, box: int) -> LawFacts:
     return LawFacts(law.family, share, bayes, float(law.mean) * box, spread * box)
 
 
-def allowed_of(question: Question, levels: Levels) -> Allowed | None:
-    """Returns what the chosen policy of a new item comes to under the laws that what it has learned allows. None for
-    other items, and if no such law has a long run."""
-    if not question.is_new:
-        return None
+def allowed_of(question: Question, levels: Levels) -> dict[str, Value]:
+    """Returns what the chosen policy of a new item meets at once under the laws that what it has learned allows: a tenth
+    of them gives less than the `low` end, a tenth more than the `high` one. Nothing if no such law has a long run.
+    """
     laws, policies = allowed_by(question), [Policy(CHOSEN, *levels)]
     try:
         figures = figures_of_laws(question.for_theory(), laws, policies)
     except NoTheory:
-        return None
+        return {"low": None, "high": None}
     low, high = np.quantile(figures.fill, TENTHS).tolist()
-    if not question.has_backlog:
-        return Allowed(low, high, None, None)
-    return Allowed(
-        low, high, *map(question.money, np.quantile(figures.cost, TENTHS).tolist())
-    )
+    return {"low": low, "high": high}
 
 
 def correction_of(question: Question) -> Correction | None:
@@ -185,8 +179,8 @@ def remarks_of_stated(question: Question) -> Iterator[Remark]:
         yield Remark("stated without season")
 
 
-def remarks_of_past(question: Question, allowed: Allowed | None) -> Iterator[Remark]:
-    """Yields what must be said of the history of an item."""
+def remarks_of_past(question: Question, levels: Levels) -> Iterator[Remark]:
+    """Yields what must be said of the history of an item, whose chosen policy has these levels."""
     item, settings, learned = question.item, question.settings, question.learned
     if question.is_stated:
         yield from remarks_of_stated(question)
@@ -202,8 +196,7 @@ def remarks_of_past(question: Question, allowed: Allowed | None) -> Iterator[Rem
         facts: dict[str, Value] = {
             "periods": len(item.known.counts),
             "prior": learned.prior if learned else "",
-            "low": allowed.fill_low if allowed else None,
-            "high": allowed.fill_high if allowed else None,
+            **allowed_of(question, levels),
         }
         yield Remark("new", facts)
         return
@@ -321,7 +314,6 @@ def answer_of(question: Question, choice: Choice, program: str) -> Answer:
         verdict = BOUNDED
     bounds = [*bounds_of(question, choice)]
     coverage = next((cost for name, _, cost in bounds if name in COVERAGES), None)
-    allowed = allowed_of(question, choice.levels)
     return Answer(
         verdict,
         source,
@@ -341,14 +333,13 @@ def answer_of(question: Question, choice: Choice, program: str) -> Answer:
         question.laws,
         run,
         (
-            *remarks_of_past(question, allowed),
+            *remarks_of_past(question, choice.levels),
             *remarks_of(question, sample, choice),
             *remarks_of_today(question, choice),
             *remarks_of_bounds(question, choice, bounds),
             *remarks_of_packs(question, choice.levels),
             *remarks_of_damping(question, figures),
         ),
-        allowed,
         figures.get(OVERRIDE),
         share_of(question),
         cost_promised=promised_by(question, cost),

@@ -103,32 +103,26 @@ class Risk:
         )
 
     @cached_property
-    def _figures(self) -> tuple[float, float, float]:
-        """Returns both chances, and what is short."""
+    def _figures(self) -> tuple[float, float]:
+        """Returns the chance of a shortage, and what is short."""
         box, sure = self.standing.laws.box, self.there
-        doubtful = self.overdue + self._due_on(None)
-        in_time, without, short = 0.0, 0.0, 0.0
+        without, short = 0.0, 0.0
         for _, chance, demand in demands_of(self.standing.laws, self.horizons):
-            in_time += chance * demand.above(math.floor((sure + doubtful) / box))
             without += chance * demand.above(math.floor(sure / box))
             lacking = np.maximum(demand.cells * box - float(sure), 0.0)
             short += chance * float(lacking @ demand.chances)
-        return in_time, without, short
-
-    @property
-    def chance(self) -> float:
-        """Returns the chance of a shortage before the next receipt, if what is overdue or has no date comes in time."""
-        return self._figures[0]
+        return without, short
 
     @property
     def chance_without(self) -> float:
-        """Returns the chance of one if none of that comes before."""
-        return self._figures[1]
+        """Returns the chance of a shortage before the next receipt, if nothing that is overdue or has no date comes
+        before."""
+        return self._figures[0]
 
     @property
     def short(self) -> float:
-        """Returns the items that are expected to lack before the next receipt if none of that comes before."""
-        return self._figures[2]
+        """Returns the items that are expected to lack then."""
+        return self._figures[1]
 
     @property
     def value(self) -> float | None:

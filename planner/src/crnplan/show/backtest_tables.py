@@ -57,23 +57,15 @@ def verdict_of(sums: Sums) -> str:
     return past_said(sums.verdict)
 
 
-def best_of(sums: Sums) -> str | None:
-    return sums.best and METHOD_WORDS[sums.best].name
-
-
 CODES = [method.code for method in METHODS]
-CELLS = {"verdict": verdict_of, "best": best_of}
-# Columns that methods lack whose levels don't change, or that promise nothing; and the kept plan, beside itself.
-UNCHANGED = {f"changes_{method.code}" for method in METHODS if not method.is_changing}
+CELLS = {"verdict": verdict_of}
+# Columns that methods lack which promise nothing; and the kept plan, beside itself.
 UNPROMISED = {
-    f"{promised}_{method.code}"
-    for method in METHODS
-    for promised in ("promised", "promised_fill")
-    if not method.is_promising
+    f"promised_fill_{method.code}" for method in METHODS if not method.is_promising
 }
 BESIDE_ITSELF = {
     f"{figure}_{KEPT}{end}"
-    for figure in "gained stock cost equal_fill equal_stock equal_spent".split()
+    for figure in "stock cost equal_fill equal_stock equal_spent".split()
     for end in ("", "_error")
 }
 
@@ -87,10 +79,8 @@ def _columns(
     return tuple(column for column in columns if column.name not in lacking)
 
 
-BACKTEST_COLUMNS = _columns(
-    "backtest", [*CODES, SHUFFLED], UNCHANGED | UNPROMISED | {f"changes_{SHUFFLED}"}
-)
-SUM_COLUMNS = _columns("backtest_sums", CODES, UNCHANGED | BESIDE_ITSELF)
+BACKTEST_COLUMNS = _columns("backtest", [*CODES, SHUFFLED], UNPROMISED)
+SUM_COLUMNS = _columns("backtest_sums", CODES, BESIDE_ITSELF)
 
 
 def backtest_of(tested: Tested) -> DataTable:

@@ -7,7 +7,7 @@ from fractions import Fraction
 from functools import cached_property
 from typing import TYPE_CHECKING, Any
 
-from ..plan.answer import CHOSEN, RUN, THEORY, TODAY, Answer, Figures
+from ..plan.answer import RUN, THEORY, Answer, Figures
 from ..read.catalogue_reading import defaulted
 from ..read.item import NO_DEMAND, UNORDERED, Item
 from ..read.items import OUTSIDE, Reject
@@ -77,21 +77,13 @@ class Decision:
 
     @property
     def no_shortage(self) -> Mapping[str, Fraction | float]:
-        """Returns the share of periods without a shortage that is wanted, and those of policies; nothing if none is."""
+        """Returns the share of periods without a shortage that is wanted, and that of the chosen policy; nothing if none is."""
         wanted = self.item.no_shortage
         if wanted is None:
             return {}
-        shares: dict[str, Fraction | float] = {"wanted": wanted}
-        for name in (TODAY, CHOSEN):
-            figures = getattr(self.answer, name, None)
-            if figures:
-                shares[name] = figures.no_shortage
-        return shares
-
-    @property
-    def review(self) -> int | None:
-        """Returns the periods from one review to the next; None if each has one."""
-        return self.item.review if self.item.review > 1 else None
+        if self.answer is None:
+            return {"wanted": wanted}
+        return {"wanted": wanted, "chosen": self.answer.chosen.no_shortage}
 
     @property
     def planned_by(self) -> str | None:

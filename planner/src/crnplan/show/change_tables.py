@@ -8,7 +8,7 @@ from typing import NamedTuple
 from ..plan.catalogue import PlannedFolder
 from ..plan.changes import DAMPED, KINDS, MOVED, Change, ChangeSums
 from ..table import DataTable
-from .catalogue_tables import codes_of, words_of
+from .catalogue_tables import words_of
 from ..columns import columns_of
 from ..drawing.rendering import rendered
 
@@ -22,22 +22,11 @@ class ChangeRow(NamedTuple):
     change: Change
 
     @property
-    def periods_since(self) -> int | None:
-        since = self.change.since
-        if since:
-            return len(since.demands)
-        return None
-
-    @property
     def demand_since(self) -> int | None:
         since = self.change.since
         if since:
             return sum(since.demands)
         return None
-
-    @property
-    def codes(self) -> str:
-        return codes_of(self.change.reasons)
 
     @property
     def why(self) -> str:

@@ -1,12 +1,11 @@
-"""The tables of what the plan of a catalogue aims at and promises: by the past of a class, and of items that are planned
+"""The table of what the plan of a catalogue aims at and promises: by the past of a class, and of items that are planned
 together."""
 from __future__ import annotations
 
 from typing import TYPE_CHECKING, NamedTuple
 
 from ..columns import columns_of
-from ..plan.aims import CLASSES, Overrun, Tried
-from ..plan.prices import Price
+from ..plan.aims import CLASSES
 from ..table import DataTable
 
 if TYPE_CHECKING:
@@ -16,76 +15,26 @@ if TYPE_CHECKING:
 # Items that are planned together: those of all classes, or of all but the named ones.
 ALL_CLASSES, OTHER_CLASSES = "all", "others"
 MOST_WANTED = 3  # fill rates, of which the aims are shown
-AIM_COLUMNS = columns_of("show", "aims")
-COST_COLUMNS = columns_of("show", "costs")
-TOGETHER_COLUMNS = columns_of("show", "together")
+COLUMNS = columns_of("show", "promises")
 
 
-class Aimed(NamedTuple):
-    """Where a class of items, whose past was `tried`, aims for a wanted fill rate."""
-
-    wanted: float
-    name: str
-    tried: Tried
-
-    @property
-    def aimed(self) -> float:
-        return self.tried.aim(self.wanted)
-
-    @property
-    def met(self) -> float:
-        """Returns the share of demand that this met on the past."""
-        return self.tried.met(self.aimed)
-
-
-class Costed(NamedTuple):
-    """What plans of a class of items with a backlog cost cost on the past."""
+class Promise(NamedTuple):
+    """What is aimed at and promised for a class of items. None stands for no figure."""
 
     name: str
-    overrun: Overrun
-
-    @property
-    def more(self) -> float:
-        """Returns the share by which that was more than theory says."""
-        return self.overrun.times - 1
-
-
-class Together(NamedTuple):
-    """A group of items that are planned together, by its `price`, with what they come to."""
-
-    group: str
-    price: Price
-    totals: Totals
-    has_others: bool
-
-    @property
-    def name(self) -> str:
-        """Returns the class of the group: all items, or those of other classes than named ones, have none."""
-        return self.group or (OTHER_CLASSES if self.has_others else ALL_CLASSES)
-
-    @property
-    def items(self) -> int:
-        return self.totals.shared[self.group]
-
-    @property
-    def promised(self) -> float | None:
-        """Returns the share that the chosen policies meet by theory; None if no item is planned."""
-        asked = self.totals[f"together {self.group}"]
-        return self.totals[f"met together {self.group}"] / asked if asked else None
-
-    @property
-    def least(self) -> float | None:
-        fills = self.totals.fills.get(self.group)
-        return fills[0] if fills else None
-
-    @property
-    def greatest(self) -> float | None:
-        fills = self.totals.fills.get(self.group)
-        return fills[1] if fills else None
-
-    @property
-    def at_least(self) -> int:
-        return self.totals.least[self.group]
+    items: int
+    periods: int | None = None
+    wanted: float | None = None
+    aimed: float | None = None
+    promised: float | None = None
+    met: float | None = None
+    least: float | None = None
+    greatest: float | None = None
+    at_least: int | None = None
+    price: float | None = None
+    alone: float | None = None
+    more: float | None = None
+    error: float | None = None
 
 
 def aims_of(folder: PlannedFolder, totals: Totals) -> DataTable | None:
@@ -96,10 +45,11 @@ def aims_of(folder: PlannedFolder, totals: Totals) -> DataTable | None:
         return None
     aimed = []
     for wanted in sorted(fill for fill, _ in totals.corrected.most_common(MOST_WANTED)):
-        aimed += [
-            Aimed(wanted, name, tried) for name, tried in zip(CLASSES, aims.classes)
-        ]
-    return DataTable.of(AIM_COLUMNS, aimed)
+        for name, tried in zip(CLASSES, aims.classes):
+            aim = tried.aim(wanted)
+            own = Promise(name, tried.items, tried.periods, wanted, aim)
+            aimed.append(own._replace(met=tried.met(aim)))
+    return DataTable.of(COLUMNS, aimed)
 
 
 def costs_of(folder: PlannedFolder) -> DataTable | None:
@@ -108,19 +58,34 @@ def costs_of(folder: PlannedFolder) -> DataTable | None:
     overruns = folder.settings.overruns
     if overruns is None:
         return None
-    return DataTable.of(COST_COLUMNS, [*map(Costed, CLASSES, overruns.classes)])
+    costs = []
+    for name, its in zip(CLASSES, overruns.classes):
+        own = Promise(name, its.items, its.periods)
+        costs.append(own._replace(more=its.times - 1, error=its.error))
+    return DataTable.of(COLUMNS, costs)
 
 
 def together_of(folder: PlannedFolder, totals: Totals) -> DataTable | None:
     """Returns what the groups come to whose items are planned together; None if none are."""
-    prices = folder.settings.prices
-    if prices is None:
+    settings, groups = folder.settings, []
+    if settings.prices is None:
         return None
-    has_others = len(prices.groups) > 1
-    groups = [
-        Together(group, price, totals, has_others)
-        for group, price in sorted(prices.groups.items())
-    ]
-    has = {"past": folder.settings.correct, "at_least": folder.settings.at_least}
-    columns = [column for column in TOGETHER_COLUMNS if has.get(column.name, True)]
-    return DataTable.of(columns, groups)
+    rest = OTHER_CLASSES if len(settings.prices.groups) > 1 else ALL_CLASSES
+    for group, price in sorted(settings.prices.groups.items()):
+        asked = totals[f"together {group}"]
+        least, greatest = totals.fills.get(group, (None, None))
+        groups.append(
+            Promise(
+                group or rest,
+                totals.shared[group],
+                wanted=price.wanted,
+                promised=totals[f"met together {group}"] / asked if asked else None,
+                met=price.past if settings.correct else None,
+                least=least,
+                greatest=greatest,
+                at_least=totals.least[group] if settings.at_least else None,
+                price=price.price,
+                alone=price.alone,
+            )
+        )
+    return DataTable.of(COLUMNS, groups)
