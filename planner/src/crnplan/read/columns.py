@@ -36,21 +36,7 @@ if TYPE_CHECKING:
     from .items import Reading
 
 # The roles of each table in order, and those that each must have. s and S differ by their case.
-ROLES = {
-    kind: ["item", *HEADINGS[kind]]
-    for kind in (
-        "demand",
-        "items",
-        "orders",
-        "stock",
-        "on_order",
-        "placed",
-        "quantities",
-        "overrides",
-        "out_of_stock",
-        LAWS,
-    )
-}
+ROLES = {kind: ["item", *HEADINGS[kind]] for kind in AMOUNTS}
 # Tables whose columns may also have the names of others.
 LIKE = {
     "stock": ["today"],
@@ -58,7 +44,6 @@ LIKE = {
     "placed": ["on_order", "today"],
     "quantities": ["placed"],
 }
-COLUMNS = [f"{kind}.{role}" for kind, roles in ROLES.items() for role in roles]
 NEEDED = {
     "demand": {"item", "date", "quantity"},
     "items": {"item", "setup", "holding"},
@@ -148,11 +133,8 @@ def conversion(role: str, unit: str, every: str) -> tuple[Fraction, str]:
 
 def factors_of(columns: Mapping[str, Column], every: str) -> dict[str, Fraction]:
     """Returns by what the numbers of each column with a unit are multiplied, by role."""
-    factors = dict[str, Fraction]()
-    for role, column in columns.items():
-        if column.unit:
-            factors[role], _ = conversion(role, column.unit, every)
-    return factors
+    units = {role: column.unit for role, column in columns.items() if column.unit}
+    return {role: conversion(role, units[role], every)[0] for role in units}
 
 
 def is_converted(column: Column, every: str) -> bool:
@@ -200,10 +182,8 @@ class Finder:
         more = words.names.get(kind, {})
         self.role_of = dict[str, str]()
         for role in ROLES[kind]:
-            for name in (
-                *usual_names(kind, role),
-                *map(plain_name, more.get(role, ())),
-            ):
+            own = map(plain_name, more.get(role, ()))
+            for name in (*usual_names(kind, role), *own):
                 self.role_of.setdefault(name, role)
         self.columns: dict[str, Column] = {}
         self.wrong: list[Remark] = []
@@ -235,12 +215,11 @@ class Finder:
     @property
     def may_be_wide(self) -> bool:
         """Returns whether a table without a column of dates may have them in its heading."""
-        wide = WIDE_ROLES.get(self.kind)
-        if wide is None:
-            return False
-        stated = {role: self.stated.get(role, name) for role, name in wide.items()}
-        date, _ = wide
-        return stated == wide and date not in self.columns
+        wide = WIDE_ROLES.get(self.kind, {})
+        is_stated = any(
+            self.stated.get(role, wide[role]) != wide[role] for role in wide
+        )
+        return bool(wide) and not is_stated and [*wide][0] not in self.columns
 
     def find(self, heading: Sequence[str]) -> tuple[dict[str, Column], list[Remark]]:
         """Returns the column of each role that the heading has, and what is wrong. Names are compared whole first, for

@@ -32,7 +32,7 @@ from ..vocabulary import (
     word,
 )
 from .choosing import conditions_in
-from .columns import COLUMNS, ROLES, unit_fault
+from .columns import ROLES, unit_fault
 from .dates import EVERY
 from .defaults import KEEP, LEAVE_OUT, Defaults
 from .leads import LEAD_FROM, RECEIPTS
@@ -68,16 +68,18 @@ class Reject:
 def by_place(read: Callable[[str, Any], Any], type: str, metavar: str) -> Kind:
     """Returns the kind of values by table and role, or by FILE.ROLE, each of which is read with its role."""
 
-    def of_role(file: str, role: str, value: Any) -> Any:
+    def roles_of(file: str) -> Sequence[str]:
         if file not in ROLES:
             raise Refused("there is no such table", near(file, ROLES))
-        if role not in ROLES[file]:
+        return ROLES[file]
+
+    def of_role(file: str, role: str, value: Any) -> Any:
+        if role not in roles_of(file):
             raise Refused("there is no such column", near(role, ROLES[file]))
         return read(role, value)
 
     def of_file(file: str, roles: Any) -> dict[str, Any]:
-        if file not in ROLES:
-            raise Refused("there is no such table", near(file, ROLES))
+        roles_of(file)
         own = table_in(roles)
         return entries({role: partial(of_role, file, role, own[role]) for role in own})
 

@@ -11,7 +11,7 @@ import numpy as np
 
 from ..formats import MOST_ITEMS
 from ..remarks import Remark, Value
-from .cells import UNPRINTABLE, Cell, Flags, Numbers, fault, named_lines, text_of
+from .cells import UNPRINTABLE, Flags, Numbers, fault, named_lines, text_of
 from .choosing import named_values, places_of
 from .controls import Controls, controls_of, together
 from .dates import period_name, periods_of_days
@@ -214,8 +214,7 @@ class Reader:
             units = map(text_of, column.distinct)
             factors = (words.factors.get(unit, 1) for unit in units)
             sizes = column.of_rows(factors, np.int64)
-            asked = asked * sizes
-            back = back * sizes
+            asked, back = asked * sizes, back * sizes
         marked = np.zeros_like(asked)
         if "promotion" in rows.columns:
             marked = demand.read_whole("promotion", is_marked)

@@ -8,7 +8,6 @@ import itertools
 import statistics
 from collections.abc import Callable, Mapping, Sequence
 from fractions import Fraction
-from pathlib import Path
 from typing import TYPE_CHECKING, Any, NamedTuple, Union
 
 import numpy as np
@@ -18,7 +17,6 @@ from ..remarks import Remark, Value
 from .amounts import AMOUNTS, UNITS
 from .cells import (
     Cell,
-    CellFault,
     Flags,
     Numbers,
     Unreadable,

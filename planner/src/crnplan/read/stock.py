@@ -9,7 +9,6 @@ from fractions import Fraction
 from functools import cached_property
 from operator import attrgetter
 from types import MappingProxyType
-from typing import Any
 
 import numpy as np
 
