@@ -108,9 +108,9 @@ def conditions_in(value: Any) -> tuple[str, ...]:
 def wanted_of(kind: str, where: Iterable[str]) -> dict[str, set[str]]:
     """Returns by column what must stand there in the table of a kind. Several values of a column are alternatives."""
     wanted: dict[str, set[str]] = {}
-    for condition in map(Condition.of, where):
-        if condition.kind in ("", kind):
-            wanted.setdefault(condition.column, set()).add(condition.value)
+    for own, column, value in map(Condition.of, where):
+        if own in ("", kind):
+            wanted.setdefault(column, set()).add(value)
     return wanted
 
 
@@ -155,11 +155,14 @@ def filed_in(kind: str, sheet: Sheet) -> int | None:
     column = sheet.columns.get("quantity")
     if kind != "on_order" or column is None:
         return None
-    places = list[int]()
-    for place, name in enumerate(sheet.heading):
-        is_alike = is_base(name) == is_base(column.name) and place not in sheet.used
-        if is_alike and part_of(name) in (BARE, ORDERED):
-            places.append(place)
+    is_own = is_base(column.name)
+    places = [
+        place
+        for place, name in enumerate(sheet.heading)
+        if place not in sheet.used
+        and is_base(name) == is_own
+        and part_of(name) in (BARE, ORDERED)
+    ]
     return places[0] if len(places) == 1 else None
 
 
@@ -291,11 +294,11 @@ def ticked(cells: Iterable[Cell]) -> set[Cell]:
 
 def closed_rows(rows: Rows) -> Iterator[tuple[str, Flags]]:
     """Yields the columns that say that lines are closed, with those lines."""
-    for name, mark in rows.sheet.marks.items():
+    for key, mark in rows.sheet.marks.items():
+        name, column = mark.column.name, rows.columns[key]
         if mark.use == CLOSED:
-            column = rows.columns[name]
-            known = (is_closed(mark.column.name, cell) for cell in column.distinct)
-            yield mark.column.name, column.of_rows(map(bool, known), bool)
+            known = (is_closed(name, cell) is True for cell in column.distinct)
+            yield name, column.of_rows(known, bool)
 
 
 def sizes_of(rows: Rows, factors: Mapping[str, int]) -> dict[str, int]:

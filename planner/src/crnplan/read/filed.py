@@ -21,7 +21,6 @@ from .blocks import (
     Filed,
     Piece,
     RangeRead,
-    Seen,
     Sizes,
     closed_ranges,
     ranges_of,
@@ -54,16 +53,14 @@ class FiledTable:
 
     sheet: Sheet
     blocks: list[tuple[int, Filed]] = field(default_factory=list)
-    seen: Seen = field(default_factory=dict)
+    seen: dict[str, Counter[Cell]] = field(default_factory=dict)
     rows: int = 0
     blank: int = 0
 
     def add(self, before: int, block: Filed) -> None:
         """Adds the next block of the table."""
         for role, counts in block.seen.items():
-            mine = self.seen.setdefault(role, {})
-            for cell, count in counts.items():
-                mine[cell] = mine.get(cell, 0) + count
+            self.seen.setdefault(role, Counter()).update(counts)
         block.seen = {}
         self.blocks.append((before, block))
         self.rows, self.blank = self.rows + block.rows, self.blank + block.blank
@@ -90,8 +87,7 @@ class FiledTable:
 
     def counts(self, role: str) -> dict[Cell, int]:
         """Returns how many good rows have each value of a column that one has; nothing if there is no column."""
-        counts = self.seen.get(role, {})
-        return {cell: count for cell, count in counts.items() if count}
+        return dict(+self.seen.get(role, Counter()))
 
     def pieces(self, part: int) -> list[Piece]:
         """Returns where the rows of a part are."""

@@ -98,16 +98,14 @@ class Masters:
             unit = self.units.get(role, "")
             readers[role] = partial(amounts[role].share, unit=unit, role=role)
         for role, reader in times.items():
-            read: Callable[..., Any] = reader.span
-            if role in ("lead", "review"):
-                read = reader.leads if role == "lead" else reader.review
+            reads = {"lead": reader.leads, "review": reader.review}
             unit = self.units.get(role, "")
-            readers[role] = partial(read, unit=unit, every=every)
+            time = reads.get(role, reader.span)
+            readers[role] = partial(time, unit=unit, every=every)
         for role, kind in AMOUNTS["items"].items():
-            read = self.table.number(role)
-            if "decimals" in KINDS[kind]:
-                read = partial(self._money, role=role, kind=kind)
-            readers.setdefault(role, read)
+            readers.setdefault(role, self.table.number(role))
+            if "decimals" in KINDS[kind] and role != "holding":
+                readers[role] = partial(self._money, role=role, kind=kind)
         readers |= dict.fromkeys(TEXTS, printable)
         return {role: readers[role] for role in ROLES["items"][1:]}
 

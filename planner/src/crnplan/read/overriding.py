@@ -83,25 +83,21 @@ def put_overrides(
     folder: Folder,
     stated: Stated,
     unknown: Mapping[str, Reject],
-    earlier: Mapping[str, Override],
+    earlier: Mapping[str, Override | None],
 ) -> None:
     """Puts overrides into the catalogue that was read into a folder, by a copy. Raises RefusedFaults if masters say
     otherwise than the table."""
-    asked: dict[str, Override | None] = {**earlier, **stated}
-    if not asked:
-        return
     part = folder.room() / f"{Path(READ).name}-overridden"
     faults = list[Fault]()
     shutil.copyfile(folder.path / READ, part)
     with contextlib.closing(sqlite3.connect(part)) as base:
-        for name, override in asked.items():
+        for name, override in {**earlier, **stated}.items():
             row = base.execute("SELECT * FROM items WHERE name = ?", [name]).fetchone()
             item = ITEM.value(row) if row else None
             if item and item.override is None:
                 base.execute(REPLACE_ITEM, ITEM.cells(overridden(item, override)))
             elif item and name in stated and item.override != override:
-                two = Remark("two overrides of an item", {"item": name})
-                faults.append(Fault(two))
+                faults.append(Fault(Remark("two overrides of an item", {"item": name})))
             elif item is None and name in unknown:
                 base.execute(ADD_REJECT, REJECT.cells(unknown[name]))
         base.commit()
@@ -116,9 +112,9 @@ def set_overrides(
     """Puts what planners have set into the catalogue that was read into a folder: by a table, and for an earlier plan in
     another folder. Raises Refused and RefusedFaults."""
     stated, unknown = read_overrides(table, words)
-    earlier = dict[str, Override]()
+    earlier = dict[str, Override | None]()
     if after and (after / READ).is_file():
         with contextlib.closing(Catalogued(after / READ)) as read:
-            items = [*read.overridden()]
-        earlier = {item.name: item.override for item in items if item.override}
-    put_overrides(folder, stated, unknown, earlier)
+            earlier = {item.name: item.override for item in read.overridden()}
+    if stated or earlier:
+        put_overrides(folder, stated, unknown, earlier)

@@ -340,18 +340,13 @@ class Reader:
     def _note_unknown(self, item: Item, moves: Moves) -> None:
         """Counts the promoted and the unknown periods of an item, and names the rows that leave these so, if no word says
         that they do."""
-        if item.promoted:
-            self.numbers["promoted"] += 1
-            self.numbers["promoted_periods"] += len(item.promoted)
-        if not item.unknown:
-            return
-        self.numbers["unknown"] += 1
-        self.numbers["unknown_periods"] += len(item.unknown)
-        if item.cut:
-            self.numbers["cut"] += 1
-            self.numbers["cut_periods"] += len(item.cut)
+        counted = {"promoted": item.promoted, "unknown": item.unknown, "cut": item.cut}
+        for name, places in counted.items():
+            if places:
+                self.numbers[name] += 1
+                self.numbers[f"{name}_periods"] += len(places)
         lines = moves.lines[moves.blank == 1].tolist()
-        if lines and self.words.empty is None:
+        if lines and item.unknown and self.words.empty is None:
             named = named_lines([*map(self.demand.rows.sheet.called, lines)])
             what = fault("quantity", "", "unknown rows", lines=named, rows=len(lines))
             self.demand.name("suspicious", lines[0], item.name, [what])

@@ -103,21 +103,14 @@ def settle_times(
         unit, items, count = "", 0, 0
         if role == "lead" and "orders" in tables:
             unit, items, count = agreed_unit(tables, whole, parts)
+        facts: dict[str, Value] = {"name": column.name, "role": role, "unit": unit}
         if unit:
             sheet.columns[role] = replace(column, unit=unit, counts=unit)
-            facts: dict[str, Value] = {
-                "name": column.name,
-                "role": role,
-                "unit": unit,
-                "items": items,
-                "count": count,
-            }
+            facts |= {"items": items, "count": count}
             said.append(Remark("unit of receipts", facts))
         elif False not in is_bare:
-            why = Remark(
-                "no unit of the column", {"name": column.name, "place": f"items.{role}"}
-            )
-            faults.append(sheet.fault_of(why))
+            place = {"name": column.name, "place": f"items.{role}"}
+            faults.append(sheet.fault_of(Remark("no unit of the column", place)))
     if faults:
         raise RefusedFaults(faults)
     return said

@@ -159,11 +159,12 @@ class StatedLaws:
         """Returns the law of a mean and a variance."""
         if len(rows) > 1:
             raise Unlawful("mean", "several laws", count=len(rows))
-        mean = float(self.numbers["mean"][rows[0]])
+        (first,) = rows
+        mean = float(self.numbers["mean"][first])
         if "variance" in self.numbers:
-            variance = float(self.numbers["variance"][rows[0]])
+            variance = float(self.numbers["variance"][first])
         else:
-            variance = float(self.numbers["deviation"][rows[0]] ** 2)
+            variance = float(self.numbers["deviation"][first] ** 2)
         law = law_of_moments(mean, variance)
         return self.stated(law, {"mean": mean, "variance": variance})
 
