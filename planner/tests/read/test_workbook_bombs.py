@@ -10,7 +10,7 @@ import pytest
 
 from crnplan.errors import Refused
 from crnplan.read import workbooks
-from crnplan.read.glance import glances
+from crnplan.read.looks import looks_as
 from crnplan.read.items import Reading
 from planner.tests.read.test_workbooks import cells_of
 
@@ -73,7 +73,7 @@ def looks(path: Path) -> dict[str, list[list[str]]]:
     """Returns the first rows of a file by the kind of table, and without rows what is wrong."""
     return {
         look.kind: [[*row] for row in look.rows] or [[str(it) for it in look.faults]]
-        for look in glances(["demand", "items"], str(path), Reading())
+        for look in looks_as(["demand", "items"], str(path), Reading())
     }
 
 

@@ -17,7 +17,7 @@ from ..read.amounts import AMOUNTS
 from ..read.blocks import DATES
 from ..read.columns import COUNTED, ROLES
 from ..read.encodings import USUAL
-from ..read.glance import Glance, glances, likeliest, words_with
+from ..read.looks import Look, likeliest, looks_as, words_with
 from ..read.items import Reading
 from ..read.stock import ON_ORDER
 from ..read.told import made_from
@@ -68,10 +68,10 @@ def changing_files(own: Front) -> Iterator[State]:
             state.placed = settled
 
 
-def looks_at(desk: Desk, file: Dropped, words: Reading) -> list[Glance]:
+def looks_at(desk: Desk, file: Dropped, words: Reading) -> list[Look]:
     """Returns what is seen of a file as a table of its kind, or of each kind if it is not known."""
     kinds = KINDS if file.kind == UNKNOWN else (file.kind,)
-    return glances(kinds, desk.table_in(file), words, desk.folder.room())
+    return looks_as(kinds, desk.table_in(file), words, desk.folder.room())
 
 
 def found(desk: Desk, file: Dropped, **written: str) -> tuple[Dropped, str]:
@@ -99,7 +99,7 @@ def settle(desk: Desk, file: Dropped, source: str) -> None:
             state.sources[source] = file.kind
 
 
-def chosen_words(tree: Any, look: Glance, form: Mapping[str, str]) -> dict[str, Any]:
+def chosen_words(tree: Any, look: Look, form: Mapping[str, str]) -> dict[str, Any]:
     """Returns what crnplan.toml is to say after a form on a file."""
 
     def by_place(field: str) -> dict[int, str]:
@@ -151,7 +151,7 @@ def read_last(own: Front) -> dict[str, Any]:
 def shown(own: Front, file: Dropped, tree: Any) -> dict[str, Any]:
     """Returns what the page shows of a file."""
 
-    def seen() -> tuple[Glance, list[str]]:
+    def seen() -> tuple[Look, list[str]]:
         look = looks_at(own.desk, file, made_from(Reading, tree))[0]
         return look, sheets_of(own.desk.path / file.place)
 
@@ -223,7 +223,7 @@ def change(name: str) -> Redirect:
     new, source = found(desk, replace(old, kind=kind, sheet=sheet), **written)
     with changing_files(own):
         if new.kind != UNKNOWN:
-            look = Glance(new.kind)
+            look = Look(new.kind)
             if new == old:
                 (look,) = looks_at(desk, new, made_from(Reading, desk.tree))
             desk.keep_words(chosen_words(desk.tree, look, form))

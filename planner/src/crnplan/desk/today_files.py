@@ -10,7 +10,7 @@ from ..errors import Refused
 from ..plan.today import Days
 from ..read.cells import text_of
 from ..read.columns import ROLES
-from ..read.glance import Glance, glance
+from ..read.looks import Look, look_at
 from ..read.items import Reading
 from ..read.several import open_tables
 from ..read.sources import Row
@@ -94,7 +94,7 @@ def texts_of(row: Row) -> set[str]:
     return {*map(text_of, cells)}
 
 
-def masters_with_stock(own: Front) -> Glance | None:
+def masters_with_stock(own: Front) -> Look | None:
     """Returns what is seen of the masters if they say the stock: they have a column of it, and no file of stock is of their day
     or a later one; else None."""
     desk = own.desk
@@ -105,15 +105,15 @@ def masters_with_stock(own: Front) -> Glance | None:
         return None
     tree = desk.tree
 
-    def seen() -> Glance:
+    def seen() -> Look:
         table = desk.table_in(masters[0])
-        return glance("items", table, made_from(Reading, tree), desk.folder.room())
+        return look_at("items", table, made_from(Reading, tree), desk.folder.room())
 
     look = own.once("masters", (masters, tree), seen)
     return look if STOCK in look.columns else None
 
 
-def stock_words(words: Reading, masters: Glance) -> Reading:
+def stock_words(words: Reading, masters: Look) -> Reading:
     """Returns words by which masters are read as a table of stock: its columns are read as those of the masters."""
     columns = {
         role: masters.columns[role].name if role in masters.columns else ""
@@ -129,7 +129,7 @@ def stock_words(words: Reading, masters: Glance) -> Reading:
     )
 
 
-def stock_in(desk: Desk, days: Days, masters: Glance) -> str:
+def stock_in(desk: Desk, days: Days, masters: Look) -> str:
     """Writes the stock of masters as a table of stock, and returns its path. An item whose stock can't be read has a row
     without one. Raises Refused if a unit is stated for files of stock, in which the table would be read.
     """

@@ -6,7 +6,6 @@ Nothing is raised for what is wrong: who looks may then say what is meant.
 from __future__ import annotations
 
 import contextlib
-import copy
 import itertools
 from collections.abc import Collection, Iterable, Iterator, Mapping, Sequence
 from dataclasses import dataclass, field
@@ -40,7 +39,7 @@ ASIDE = {
 
 
 @dataclass(frozen=True)
-class Glance:
+class Look:
     """What is seen of a file as a table of a kind: how it is written, the digest of its heading, its columns and its first
     rows as they are read, which of them has which role, what is wrong with it (`faults`), and with its columns (`wrong`).
     The columns of a wide table that stand for periods are two: of dates and of amounts. So its heading is the same with
@@ -100,7 +99,7 @@ def needed_of(kind: str, roles: Collection[str]) -> set[str]:
     return NEEDED[kind] - {"quantity"} if is_ordered else NEEDED[kind]
 
 
-def glance(kind: str, table: str, words: Reading, room: Path | None = None) -> Glance:
+def look_at(kind: str, table: str, words: Reading, room: Path | None = None) -> Look:
     """Returns what is seen of a file as a table of a kind. A gzipped file is unpacked in `room`."""
     faults = list[Fault]()
     try:
@@ -110,7 +109,7 @@ def glance(kind: str, table: str, words: Reading, room: Path | None = None) -> G
             if sheet.fault:
                 faults.append(sheet.fault)
             found, wrong = columns_in(finder, sheet, words)
-            return Glance(
+            return Look(
                 kind,
                 sheet.written,
                 digest_of(found.heading) if found.heading else "",
@@ -123,18 +122,18 @@ def glance(kind: str, table: str, words: Reading, room: Path | None = None) -> G
             )
     except Refused as why:
         faults += faults_of(why)
-        return Glance(kind, faults=faults, is_refused=True)
+        return Look(kind, faults=faults, is_refused=True)
 
 
-def glances(
+def looks_as(
     kinds: Sequence[str], table: str, words: Reading, room: Path | None = None
-) -> list[Glance]:
+) -> list[Look]:
     """Returns what is seen of a file as a table of each of some kinds. What these share is read once."""
     with contextlib.ExitStack() as stack:
         with contextlib.suppress(Refused):
             rules = words.rules_of(kinds[0])
             stack.enter_context(opened(table, kinds[0], rules, room))
-        seen = [glance(kind, table, words, room) for kind in kinds]
+        seen = [look_at(kind, table, words, room) for kind in kinds]
     return seen
 
 
@@ -156,10 +155,10 @@ def seen_rows(sheet: Sheet, faults: list[Fault]) -> Iterator[list[str]]:
         faults += faults_of(why)
 
 
-def likeliest(glances: Iterable[Glance], known: Mapping[str, str]) -> Glance | None:
+def likeliest(looks: Iterable[Look], known: Mapping[str, str]) -> Look | None:
     """Returns of what is seen of a file as tables of several kinds what it is: what a file with this heading is `known` to
     be, else the kind that it fits with most columns; None if none is clear."""
-    seen = [*glances]
+    seen = [*looks]
     for one in seen:
         if known.get(one.source) == one.kind:
             return one
@@ -171,7 +170,7 @@ def likeliest(glances: Iterable[Glance], known: Mapping[str, str]) -> Glance | N
 
 
 def stated_roles(
-    look: Glance, stated: Mapping[str, str], roles: Mapping[int, str]
+    look: Look, stated: Mapping[str, str], roles: Mapping[int, str]
 ) -> dict[str, str]:
     """Returns which columns are to be stated: those that are not found by their names, if the columns at these places have
     these roles, and an empty name for a role that none of them has any longer. Raises Refused for two of one role.
@@ -196,7 +195,7 @@ def stated_roles(
 
 def words_with(
     tree: Mapping[str, Any],
-    look: Glance,
+    look: Look,
     roles: Mapping[int, str],
     units: Mapping[int, str],
     decimals: Mapping[int, str],
@@ -205,22 +204,26 @@ def words_with(
     """Returns the table [catalogue] of crnplan.toml with what is chosen of a file: by the places of columns their roles,
     units and decimal signs, and how the file is written. What is empty is left to the file. A column that gets another
     role now gets neither unit nor sign. Raises Refused for two columns of one role."""
-    words: dict[str, Any] = {"units": {}, "written": {}, **copy.deepcopy(dict(tree))}
-    kept = {
-        place: role
-        for place, role in look.roles.items()
-        if roles.get(place, role) == role
+    kept = dict[int, str]()
+    for place, role in look.roles.items():
+        if roles.get(place, role) == role:
+            kept[place] = role
+    files = tree.get("written", {})
+    own = {**files.get(look.kind, {}), **written}
+    own["decimal"] = {**own.get("decimal", {})}
+    counts = {**tree.get("units", {})}
+    for place, role in kept.items():
+        if place in decimals:
+            own["decimal"][role] = decimals[place]
+        if place in units:
+            counts[f"{look.kind}.{role}"] = units[place]
+    words: dict[str, Any] = {
+        **tree,
+        "units": filled(counts),
+        "written": filled({**files, look.kind: own}),
     }
-    own: dict[str, Any] = {"decimal": {}}
-    own |= {**words["written"].get(look.kind, {}), **written}
-    for place in kept.keys() & units.keys():
-        words["units"][f"{look.kind}.{kept[place]}"] = units[place]
-    for place in kept.keys() & decimals.keys():
-        own["decimal"][kept[place]] = decimals[place]
-    words["units"] = filled(words["units"])
-    words["written"] = filled({**words["written"], look.kind: own})
     if look.heading:
-        words[look.kind] = stated_roles(look, words.get(look.kind, {}), roles)
+        words[look.kind] = stated_roles(look, tree.get(look.kind, {}), roles)
     return {name: value for name, value in words.items() if value != {}}
 
 
