@@ -5,122 +5,100 @@ import functools
 import inspect
 import os
 from collections.abc import Callable, Iterable, Mapping
-from functools import partial
 from pathlib import Path
 from typing import Any, TypeVar, cast
 
 from .errors import Refused, argument
-from .money import exact, whole
+from .money import exact, whole_in
 from .options import SEEN, Option, option, table_of
 from .toml.documents import shown
-from .vocabulary import UNNAMED, several
+from .vocabulary import UNNAMED, Read, read_argument, read_flag, read_text, several
 
 Call = TypeVar("Call", bound=Callable[..., Any])
-Read = Callable[[Option, Any], Any]
+Judge = Callable[[Option, Any], Any]  # reads an argument by its word
 OWN = ("self", "cls")  # what a method is called on
 MOST_OF_NAME = 255  # bytes of the name of a file, on Linux
 
 
-def refused(word: Option, value: Any, what: str, advice: str) -> Refused:
-    return Refused(f"{argument(word.name)}: {shown(value)} is {what}", advice)
+def judge_of(read: Read) -> Judge:
+    """Returns what reads arguments alike, whatever their words, and then looks at the choices and the range of a word."""
+
+    def judge(word: Option, value: Any) -> Any:
+        found = read_argument(word.name, value, read)
+        word.check(found)
+        return found
+
+    return judge
 
 
-def _whole(word: Option, value: Any) -> int:
-    number = whole(value, argument(word.name))
-    word.check(number)
-    return number
+def refused(value: Any, what: str, advice: str) -> Refused:
+    return Refused(f"{shown(value)} is {what}", advice)
 
 
-def _number(word: Option, value: Any) -> float:
+def _number(value: Any) -> float:
     number = exact(value)
     if number is None:
-        raise refused(word, value, "no number", "write it as 12.5")
-    word.check(float(number))
+        raise refused(value, "no number", "write it as 12.5")
     return float(number)
 
 
-def _choice(word: Option, value: Any) -> str:
-    if not isinstance(value, str):
-        choices = ", ".join(word.choices)
-        raise refused(word, value, f"not one of {choices}", "write one of them")
-    word.check(value)
-    return value
-
-
-def _text(word: Option, value: Any) -> str:
-    if not isinstance(value, str):
-        raise refused(word, value, "no text", "write it in quotes")
-    return value
-
-
-def several_of(read: Read) -> Read:
-    """Returns what reads several values, or a single one."""
-    return lambda word, value: several(partial(read, word))(value)
-
-
-def _flag(word: Option, value: Any) -> bool:
-    if type(value).__name__ not in ("bool", "bool_"):
-        raise refused(word, value, "neither True nor False", "write one of them")
-    return bool(value)
-
-
-def read_path(word: Option, value: Any) -> str | Path:
+def _path(value: Any) -> str | Path:
     text = str(os.fspath(value)) if isinstance(value, (str, os.PathLike)) else ""
     parts = [part.encode(errors="replace") for part in text.split(os.sep)]
     if not text or UNNAMED.search(text) or max(map(len, parts)) > MOST_OF_NAME:
-        raise refused(word, value, "no path", "name a file or a folder")
+        raise refused(value, "no path", "name a file or a folder")
     return value if isinstance(value, str) else Path(value)
 
 
-def _scheduler(word: Option, value: Any) -> Any:
+def _scheduler(value: Any) -> Any:
     if not isinstance(value, str) and not hasattr(value, "scheduler_info"):
-        advice = "write its address, or give a Client"
-        raise refused(word, value, "no Dask scheduler", advice)
+        raise refused(value, "no Dask scheduler", "write its address, or give a Client")
     return value
 
 
 def _of_class(word: Option, value: Any) -> Any:
     kind = word.read.__name__
     if not isinstance(value, word.read):
-        raise refused(word, value, f"no {kind}", f"give a {kind}")
+        what = f"{argument(word.name)}: {shown(value)} is no {kind}"
+        raise Refused(what, f"give a {kind}")
     return value
 
 
-def _document(word: Option, value: Any) -> bytes:
+def _document(value: Any) -> bytes:
     """Returns the bytes of a text, or of what has bytes."""
     if isinstance(value, (bytes, bytearray)):
         return bytes(value)
     try:
-        return _text(word, value).encode()
+        return read_text(value).encode()
     except UnicodeEncodeError:
-        raise refused(word, value, "no text in UTF-8", "write characters") from None
+        raise refused(value, "no text in UTF-8", "write characters") from None
 
 
-def _generator(word: Option, value: Any) -> Any:
+def _generator(value: Any) -> Any:
     if not hasattr(value, "choice") or not hasattr(value, "bit_generator"):
-        raise refused(word, value, "no Generator", "give numpy.random.default_rng(1)")
+        raise refused(value, "no Generator", "give numpy.random.default_rng(1)")
     return value
 
 
-def _anything(word: Option, value: Any) -> Any:
+def _anything(value: Any) -> Any:
     """Returns what the call itself judges."""
     return value
 
 
+read_path = judge_of(_path)
 # What reads the arguments of each kind. Those that stand for tables and their cells are in read/judging.py.
-KINDS: Mapping[str, Read] = {
-    "text": _text,
-    "choice": _choice,
+KINDS: Mapping[str, Judge] = {
+    **dict.fromkeys(("text", "choice"), judge_of(read_text)),
     **dict.fromkeys(("path", "folder", "file"), read_path),
-    "whole": _whole,
-    "number": _number,
-    "flag": _flag,
-    "texts": several_of(_text),
-    "scheduler": _scheduler,
+    "whole": judge_of(whole_in),
+    "number": judge_of(_number),
+    "flag": judge_of(read_flag),
+    "texts": judge_of(several(read_text)),
+    "scheduler": judge_of(_scheduler),
     "class": _of_class,
-    "document": _document,
-    "generator": _generator,
-    "any": _anything,
+    "document": judge_of(_document),
+    "generator": judge_of(_generator),
+    "any": judge_of(_anything),
 }
 
 
@@ -131,7 +109,7 @@ def word_of(name: str, tables: Iterable[str]) -> Option | None:
     return option(f"{table}.{name}") if table else None
 
 
-def judged(*tables: str, kinds: Mapping[str, Read] = KINDS) -> Callable[[Call], Call]:
+def judged(*tables: str, kinds: Mapping[str, Judge] = KINDS) -> Callable[[Call], Call]:
     """Returns a decorator by which each argument of a function is read by its word in the first of some tables of
     options.toml that has it, as its kind says. None is as by default. Raises Refused for what can't be meant, with the
     argument's name.

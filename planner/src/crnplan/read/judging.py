@@ -6,32 +6,29 @@ from collections.abc import Callable, Mapping
 from typing import Any
 
 from .. import arguments
-from ..arguments import Call, Read, read_path, refused, several_of
-from ..money import exact
+from ..arguments import Call, Judge, judge_of, read_path
 from ..options import Option
-from ..vocabulary import UNNAMED, read_argument
+from ..vocabulary import entry_name, several
 
 
-def _share(word: Option, value: Any) -> float:
+def _share(value: Any) -> float:
     from .amounts import share_of
 
-    return float(read_argument(word.name, value, share_of))
+    return float(share_of(value))
 
 
-def _name(word: Option, value: Any) -> str:
+def _name(value: Any) -> str:
     """Returns a name of an item or a column, as a table has it that is read."""
     from .frames import name_of
 
-    is_text = isinstance(value, str) and not UNNAMED.search(value)
-    if not is_text and (isinstance(value, str) or exact(value) is None):
-        raise refused(word, value, "no name", "write it as in the table")
+    entry_name(value)  # which refuses what is no name
     return name_of(value)
 
 
-def _date(word: Option, value: Any) -> Any:
-    from .observed import stated_day
+def _date(value: Any) -> Any:
+    from .observed import day_of
 
-    return stated_day(word.name, value)
+    return day_of(value)
 
 
 def _table(word: Option, value: Any) -> Any:
@@ -55,12 +52,12 @@ def _laws(word: Option, value: Any) -> Any:
 
 
 # What reads the arguments of each kind.
-KINDS: Mapping[str, Read] = {
+KINDS: Mapping[str, Judge] = {
     **arguments.KINDS,
-    "share": _share,
-    "date": _date,
-    "name": _name,
-    "items": several_of(_name),
+    "share": judge_of(_share),
+    "date": judge_of(_date),
+    "name": judge_of(_name),
+    "items": judge_of(several(_name)),
     "table": _table,
     "catalogue": _tables,
     "laws": _laws,

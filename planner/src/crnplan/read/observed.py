@@ -14,6 +14,7 @@ from ..errors import Refused, argument
 from ..formats import MOST_WEIGHT
 from ..remarks import Remark
 from ..toml.documents import shown
+from ..vocabulary import read_argument
 from ..words import message
 from .cells import Numbers, Unreadable
 from .dates import DateReader, period_of
@@ -69,12 +70,7 @@ def day_of(value: object) -> Day:
 
 def stated_day(name: str, day: object) -> Day | None:
     """Returns the day that an argument states; None without one. Raises Refused with its name."""
-    if day is None:
-        return None
-    try:
-        return day_of(day)
-    except Refused as why:
-        raise Refused(f"{argument(name)}: {why.what}", why.advice) from why
+    return None if day is None else read_argument(name, day, day_of)
 
 
 def check_ends(start: Day | None, end: Day | None) -> None:
