@@ -73,6 +73,11 @@ class Column(NamedTuple):
         places = codes.of(map(read, self.distinct))
         return Column(places[self.codes[kept]], codes.distinct)
 
+    def counts(self, rows: Flags) -> dict[Cell, int]:
+        """Returns how many of some rows have each cell that one of them has."""
+        counts = np.bincount(self.codes[rows]).tolist()
+        return {cell: count for cell, count in zip(self.distinct, counts) if count}
+
     def hashes(self) -> npt.NDArray[np.uint64]:
         """Returns a hash of 64 bits of each row's cell, the same in all processes."""
         data = bytearray()
@@ -149,12 +154,11 @@ class Block:
         )
 
     def seen(self) -> Seen:
-        """Returns how many good rows have each value, in order of the first row that has it."""
+        """Returns how many good rows have each value that one has, in order of the first row that has it."""
         seen: Seen = {}
-        for role, (codes, values) in self.columns.items():
+        for role, column in self.columns.items():
             if role not in ("item", "description"):
-                counts = np.bincount(codes[self.good], minlength=len(values))
-                seen[role] = dict(zip(values, counts.tolist()))
+                seen[role] = column.counts(self.good)
         return seen
 
     def part(self, rows: Numbers) -> Block:

@@ -129,9 +129,7 @@ class Rows:
         """Returns how many good rows have each value of a column that one has; nothing if there is no column."""
         if role not in self.columns:
             return {}
-        codes, distinct = self.columns[role]
-        counts = np.bincount(codes[self.good]).tolist()
-        return {cell: count for cell, count in zip(distinct, counts) if count}
+        return self.columns[role].counts(self.good)
 
     def by_item(
         self, good: Flags, values: Numbers | None = None
