@@ -10,7 +10,6 @@ import pytest
 from crnplan.policies import Policy
 from crnplan.money import Costs
 from crnplan.runs import Scenario
-from crnplan.theory import feasible as bounds
 from crnplan.theory.feasible import ALL, Feasible
 from crnplan.theory.grid import search
 from crnplan.theory.lattice import shape_of, theory_on
@@ -247,11 +246,10 @@ def test_the_greatest_level(share: float) -> None:
     assert found.cost < below
 
 
-def test_no_policy_within_the_range(monkeypatch: pytest.MonkeyPatch) -> None:
+def test_no_policy_within_the_range() -> None:
     """Finds no policy if each period asks for 5 items, orders take 2 periods, and S is at most 14."""
-    monkeypatch.setattr(bounds, "MOST_ITEMS", 14)
     scenario = scenario_of([5], [2])
-    theory = theory_of(scenario)
+    theory = theory_of(scenario).within(Feasible(most_level=14))
     laws = [(scenario.demand, scenario.lead)]
     promises = Promises(scenario, theory, 0, laws, [0.98])
     assert theory.best(0.98) == NO_POLICY
