@@ -33,7 +33,7 @@ def by_hand(part: crn.Scenario) -> Doubt:
     fill = np.array(
         [[0.95, 0.9], [0.96, 0.91], [0.97, 0.92], [0.98, 0.93], [0.99, 0.94]]
     )
-    return Doubt(part.policies, LawFigures((0, 1, 2, 3, 4), cost, fill, 3, 0.002))
+    return Doubt(part.policies, LawFigures(cost, fill))
 
 
 def test_columns(by_hand: Doubt) -> None:

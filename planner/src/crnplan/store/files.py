@@ -179,13 +179,11 @@ def as_text(data: IO[bytes]) -> Iterator[IO[str]]:
 
 
 @contextlib.contextmanager
-def new_bytes(path: Path, room: Path | None = None) -> Iterator[IO[bytes]]:
-    """Gives a file of one of our folders to write, which is there whole or not at all. Until then it stands beside its
-    place, or in another folder of the same disk, its `room`. A symlink at its place is replaced, and not followed.
-    Raises as `faults_of` does, and Refused for a device or a pipe there."""
-    with faults_of(room.parent if room else path), finished(
-        part_in(room or path.parent), path
-    ) as file:
+def new_bytes(path: Path, room: Path) -> Iterator[IO[bytes]]:
+    """Gives a file of one of our folders to write, which is there whole or not at all. Until then it stands in another
+    folder of the same disk, its `room`. A symlink at its place is replaced, and not followed. Raises as `faults_of` does,
+    and Refused for a device or a pipe there."""
+    with faults_of(room.parent), finished(part_in(room), path) as file:
         yield file
 
 

@@ -16,7 +16,6 @@ import math
 from collections import defaultdict
 from collections.abc import Iterable, Iterator, Mapping, Sequence
 from dataclasses import dataclass
-from typing import NamedTuple
 
 import numpy as np
 
@@ -39,7 +38,6 @@ OF_PERIOD = 42
 OF_PAIR = 5
 LEAST_ROOM = 512
 TOGETHER = 8  # laws, whose tables then stay near the processor
-CHECKED = 3  # laws on a coarse lattice that are computed again on one twice as coarse
 
 CONFIDENCE = 0.8
 FACTORS = tuple(1.1**power for power in range(-5, 7))  # of the gap without a promise
@@ -55,16 +53,11 @@ MOST_LATE_WORK = 60_000  # for late orders with a gap, by `work_of`, in the mean
 class LawFigures:
     """The long run of policies under laws: a row for each law, a column for each policy.
 
-    `cost` is that of a period, without `unit`; `fill` the share of demand met at once. `laws` are the places of the laws
-    that have a long run. The coarsest lattice has steps of `step` items. `error` bounds the relative error of the costs,
-    about; it is None if they are exact but for rounding.
+    `cost` is that of a period, without `unit`; `fill` the share of demand met at once. Laws without a long run have none.
     """
 
-    laws: tuple[int, ...]
     cost: Floats
     fill: Floats
-    step: int
-    error: float | None
 
 
 def under_laws(
@@ -150,41 +143,19 @@ def keep_shortfalls(pairs: Sequence[tuple[LongRun, list[int]]]) -> None:
         chances = chances[len(gaps) :]
 
 
-def costs_of(theory: LongRun, policies: Sequence[Policy]) -> list[float]:
-    """Returns the costs of policies."""
-    return [theory.figures(policy.s, policy.S).cost for policy in policies]
-
-
-class OwnRun(NamedTuple):
-    """The long run of a law, by its place among all, with its scenario and shape."""
-
-    place: int
-    scenario: ScenarioData
-    shape: Shape
-    theory: LongRun
-
-    def error(self, policies: Sequence[Policy]) -> float:
-        """Returns how far the costs of policies are at most from those on a lattice twice as coarse, as a share."""
-        coarse = theory_on(self.scenario, self.shape, 2 * self.theory.step, False)
-        rough = np.array(costs_of(coarse, policies))
-        ratios = rough / costs_of(self.theory, policies)
-        return float(np.abs(ratios - 1).max())
-
-
 def own_runs(
     scenario: ScenarioData,
     laws: Sequence[tuple[Law, Law]],
     given: int,
     made: Mapping[int, LongRun],
-) -> Iterator[OwnRun]:
+) -> Iterator[LongRun]:
     """Yields the long run of each law that has one on a lattice, for gaps up to the given one and to wide ones."""
     for place, (own, shape) in enumerate(under_laws(scenario, laws)):
-        if shape is None:
-            continue
-        widest = max(given, math.ceil(2 * shape.order))
-        theory = run_of(own, shape, widest, made.get(place))
-        if theory is not None:
-            yield OwnRun(place, own, shape, theory)
+        if shape:
+            widest = max(given, math.ceil(2 * shape.order))
+            theory = run_of(own, shape, widest, made.get(place))
+            if theory:
+                yield theory
 
 
 def figures_of_laws(
@@ -206,21 +177,14 @@ def figures_of_laws(
             "no law of demand has a long run: as much comes back as is asked for",
             "demand",
         )
-    asked = [(run.theory, run.theory.pairs_of(policies)) for run in runs]
+    asked = [(theory, theory.pairs_of(policies)) for theory in runs]
     compute_shortfalls((theory, (gap for gap, _ in pairs)) for theory, pairs in asked)
     figures = []
     for theory, pairs in asked:
         theory.figure(pairs)
         figures.append([theory.figures(policy.s, policy.S) for policy in policies])
     table, scale = np.array(figures), float(scenario.scale)
-    rough = [run for run in runs if not run.theory.exact]
-    return LawFigures(
-        tuple(run.place for run in runs),
-        table[..., 0] / scale,
-        table[..., 1],
-        max(run.theory.step for run in runs),
-        max((run.error(policies) for run in rough[:CHECKED]), default=None),
-    )
+    return LawFigures(table[..., 0] / scale, table[..., 1])
 
 
 class Promises:
