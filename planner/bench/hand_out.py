@@ -21,7 +21,7 @@ import click
 from crnplan.store.clusters import cluster
 from crnplan.store.jobs import Workers, processes
 from crnplan.plan.answer import LawFacts
-from crnplan.store.stored import Question, Store
+from crnplan.store.stored import NamedDigest, Store
 from crnplan.store.work import Work
 from planner.bench.page import handed_table
 from planner.bench.stored import circumstances, keep, stored
@@ -53,7 +53,7 @@ def measure(
 ) -> tuple[float, float]:
     """Returns how many items a second of the main process's time, and of wall, are handed out, answered and kept."""
 
-    def questions() -> Iterator[Question]:
+    def questions() -> Iterator[NamedDigest]:
         for number in range(items):
             yield f"P{number:09}", 32 * "0"
 

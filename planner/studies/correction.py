@@ -39,7 +39,7 @@ from crnplan.chances import Floats
 from crnplan.demand.learning import LEAST_ON_REQUEST, Prior, learn
 from crnplan.errors import Refused
 from crnplan.plan.aims import FILLS, LOGS, Aims, Trial, Tried
-from crnplan.crnsim.periods import Past, periods_of
+from crnplan.crnsim.periods import Realization, periods_of
 from crnplan.plan.backtest.estimates import Ratio
 from crnplan.plan.backtest.sums import BLOCK
 from crnplan.plan.correction import levels_of, trial_of
@@ -170,7 +170,7 @@ def runs_of(
     """Returns what policies come to on counts. They begin with nothing on order, and with a stock that is a share of
     the way from s to S."""
     (part, first, _), stop = through.stretches[0], through.stretches[-1][2]
-    past, figures = Past(counts[:stop], (0,) * stop, (LEAD,) * stop), []
+    past, figures = Realization(counts[:stop], (0,) * stop, (LEAD,) * stop), []
     for place in range(len(FILLS)):
         s, S = plans[part][place]
         levels = [(s, S)] * first

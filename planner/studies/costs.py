@@ -31,7 +31,7 @@ import numpy as np
 import pandas as pd
 
 from crnplan.chances import Floats
-from crnplan.crnsim.periods import Past, Rates, periods_of
+from crnplan.crnsim.periods import Realization, Rates, periods_of
 from crnplan.demand.learning import Prior
 from crnplan.errors import Refused
 from crnplan.plan.aims import classed
@@ -137,7 +137,7 @@ def judged(
     random = np.random.default_rng([*item.name.encode()])
     (part, first, _), stop = through.stretches[0], through.stretches[-1][2]
     past, rates, start = (
-        Past(counts[:stop], (0,) * stop, (LEAD,) * stop),
+        Realization(counts[:stop], (0,) * stop, (LEAD,) * stop),
         rates_of(item),
         random.random(),
     )

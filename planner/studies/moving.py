@@ -41,7 +41,7 @@ from crnplan.demand.level import (
     LEAST_FACTOR,
     MOST_FACTOR,
     SMOOTHING,
-    Moves,
+    BlockSums,
     factor_of,
     weight_of,
 )
@@ -177,10 +177,10 @@ BESIDE = {"item": ("item", "together", "smoothed"), "together": ("mean", *MOVED)
 
 def weights_of(moving: Moving) -> dict[str, float]:
     """Returns what the records of a set say of the weight of each class, or under an empty name of all items."""
-    groups = defaultdict[str, list[Moves]](list)
+    groups = defaultdict[str, list[BlockSums]](list)
     for member in moving.members:
         name = member.group if moving.has_classes else ""
-        groups[name].append(Moves.of(member.counts[: moving.record].tolist()))
+        groups[name].append(BlockSums.of(member.counts[: moving.record].tolist()))
     return {name: weight_of(moves) for name, moves in groups.items()}
 
 

@@ -28,7 +28,7 @@ import numpy as np
 import pandas as pd
 
 from crnplan.chances import Floats, Whole
-from crnplan.crnsim.periods import Past, periods_of
+from crnplan.crnsim.periods import Realization, periods_of
 from crnplan.demand.seasons import months_of
 from crnplan.plan.aims import FILLS
 from crnplan.plan.backtest.sums import BLOCK, Ratio
@@ -103,7 +103,7 @@ def run_of(counts: Sequence[int], record: int, weeks: list[list[Levels]]) -> Run
     for place in range(len(FILLS)):
         levels = [week[place] for week in weeks]
         before = [levels[0]] * LATER
-        happened = Past(past, (0,) * size, (LEAD,) * size)
+        happened = Realization(past, (0,) * size, (LEAD,) * size)
         periods = periods_of(happened, before + levels, levels[0][1])[LATER:]
         unmet.append(np.array([period.unmet for period in periods], float))
         stock.append(np.array([max(0, period.stock) for period in periods], float))

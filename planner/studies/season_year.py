@@ -24,7 +24,7 @@ import numpy as np
 import pandas as pd
 
 from crnplan.chances import Floats
-from crnplan.crnsim.periods import Past, periods_of
+from crnplan.crnsim.periods import Realization, periods_of
 from crnplan.demand.index import Index
 from crnplan.demand.seasons import months_of
 from crnplan.plan.choice import choice_of
@@ -93,7 +93,7 @@ def simulated(
         law = season.law.times(season.index.values[month])
         demands[:, week] = law.draws(random, YEARS + 1)
     every = demands.size
-    past = Past(demands.ravel().tolist(), (0,) * every, item.leads * every)
+    past = Realization(demands.ravel().tolist(), (0,) * every, item.leads * every)
     periods = periods_of(past, weeks * (YEARS + 1), weeks[0][1])
     stock = np.array([max(0, period.stock) for period in periods], float)
     ordered = np.array([period.ordered > 0 for period in periods], float)

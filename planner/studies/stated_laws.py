@@ -34,7 +34,7 @@ from scipy.optimize import minimize
 from scipy.special import ndtri
 
 from crnplan.chances import Floats
-from crnplan.crnsim.periods import Past, periods_of
+from crnplan.crnsim.periods import Realization, periods_of
 from crnplan.law import Law
 from crnplan.read.law_forms import (
     above_of,
@@ -157,7 +157,7 @@ def curves_of_paths(mean: int, lead: int, rho: float) -> dict[str, Curve]:
     random = np.random.default_rng([SEED, mean, lead, round(10 * rho)])
     paths = random.poisson(mean * levels_of_paths(rho, PATHS, AHEAD, random))
     happened = random.poisson(mean * levels_of_paths(rho, 1, PERIODS, random))[0]
-    past = Past(happened.tolist(), (0,) * PERIODS, (lead,) * PERIODS)
+    past = Realization(happened.tolist(), (0,) * PERIODS, (lead,) * PERIODS)
     curves = dict[str, Curve]()
     for way, together in (("apart", 1), ("together", lead + 1)):
         law = law_of_moments(*moments_of_paths(paths.astype(float), together))

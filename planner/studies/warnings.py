@@ -31,7 +31,7 @@ import numpy as np
 import numpy.typing as npt
 import pandas as pd
 
-from crnplan.demand.order_tests import FALSE_ALARMS, Facts, tests_of
+from crnplan.demand.order_tests import FALSE_ALARMS, TestedHistory, tests_of
 from crnplan.demand.outliers import outliers_of
 from crnplan.demand.seasons import seasons_of
 from crnplan.demand.permutation import ROUNDING, Orders
@@ -206,7 +206,7 @@ def stated(law: str, kind: str, periods: int, count: int) -> dict[str, Any]:
     for numbers in itertools.islice(
         histories(lambda: independent(law, random, periods)), count
     ):
-        facts = Facts(numbers, seasons_of(None, 1, periods, YEAR)[0])
+        facts = TestedHistory(numbers, seasons_of(None, 1, periods, YEAR)[0])
         size = next(it.least_seen for it in tests_of(facts) if it.name == kind)
         said.append(size)
         if size is not None and size != math.inf:

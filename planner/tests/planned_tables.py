@@ -5,7 +5,7 @@ from pathlib import Path
 
 import pandas as pd
 
-from crnplan.plan.answer import Answer, Run
+from crnplan.plan.answer import Answer, CheckRun
 from crnplan.plan.catalogue import planned_folder
 from crnplan.planned import Plan
 from crnplan.read.item import Item
@@ -34,9 +34,9 @@ def whole_frame(plan: Plan) -> pd.DataFrame:
     return plan.decisions.merge(plan.details, on="item")
 
 
-def runs_of(folder: Path) -> dict[str, tuple[Item, Run]]:
+def runs_of(folder: Path) -> dict[str, tuple[Item, CheckRun]]:
     """Returns the items of a plan that were run, each with its exact figures."""
-    runs = dict[str, tuple[Item, Run]]()
+    runs = dict[str, tuple[Item, CheckRun]]()
     with planned_folder(folder) as plan:
         for item, answer in plan.answers():
             if isinstance(answer, Answer) and answer.run:

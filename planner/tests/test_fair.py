@@ -4,7 +4,7 @@ from __future__ import annotations
 import numpy as np
 import pytest
 
-from crnplan.crnsim.periods import Past, periods_of
+from crnplan.crnsim.periods import Realization, periods_of
 from planner.studies.fair import (
     BEFORE,
     LEAD,
@@ -32,7 +32,7 @@ def test_levels_come_to_what_the_periods_of_a_past_do() -> None:
     met = met_by(counts, RECORD, levels)
     first = RECORD - BEFORE
     demands = counts[first:].tolist()
-    past = Past(demands, [0] * len(demands), [LEAD] * len(demands))
+    past = Realization(demands, [0] * len(demands), [LEAD] * len(demands))
     for share in range(3):
         own = [levels[max(0, period - RECORD), share] for period in range(first, 60)]
         pairs = [(int(s), int(S)) for s, S in own]

@@ -122,6 +122,29 @@ def unreached(texts: dict[str, str]) -> set[str]:
     }
 
 
+def types_in(text: str) -> Iterator[str]:
+    """Yields the names of the classes and of the aliases of types that a module declares."""
+    tree = ast.parse(text)
+    yield from (it.name for it in ast.walk(tree) if isinstance(it, ast.ClassDef))
+    for node in tree.body:
+        if isinstance(node, ast.Assign) and not isinstance(node.value, ast.Call):
+            name = ast.unparse(node.targets[0])
+            if re.fullmatch("[A-Z][a-z][A-Za-z]*", name):
+                yield name
+
+
+def test_a_type_has_a_name_of_its_own() -> None:
+    """No two modules declare a type of one name."""
+    assert [*types_in("A = 1\nOne = int | str\nclass Two:\n    pass\n")] == [
+        "Two",
+        "One",
+    ]
+    names = Counter(
+        name for file in FILES for name in types_in(file.read_text("utf-8"))
+    )
+    assert {name for name, count in names.items() if count > 1} == set()
+
+
 def test_plants() -> None:
     """Finds what nothing calls, and places that read words; none where data are read."""
     texts = {

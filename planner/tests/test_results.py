@@ -14,7 +14,7 @@ import pandas as pd
 import pytest
 
 import crnplan as crn
-from crnplan.planned import Figures
+from crnplan.planned import ItemFigures
 from crnplan.show.catalogue_tables import DECISION_COLUMNS
 from crnplan.table import DataTable, Result, number, text, whole
 from planner.tests.conftest import shared
@@ -206,7 +206,7 @@ def test_notebooks_show_few_rows_and_columns() -> None:
     rows = [
         ["x" * 500 if column.is_text else 0.25 for column in DECISION_COLUMNS]
     ] * 5_000
-    page = Figures(DataTable(DECISION_COLUMNS, rows))._repr_html_()
+    page = ItemFigures(DataTable(DECISION_COLUMNS, rows))._repr_html_()
     heading, *shown = cells_of(page)
     assert heading == columns[:8]
     assert len(shown) == 10
@@ -257,7 +257,7 @@ ROW = ["A", 26.031, 1234.5, 0.9274034045, 0.9274034045, 0.0712345, 1234.5678, 12
 def test_notebooks_show_figures_as_pages(currency: str, money: list[str]) -> None:
     """Money has the decimals of its currency, or cents, shares are in percent, and other figures are rounded."""
     table = DataTable(COLUMNS, [ROW], decimals=0, currency=currency)
-    _, row = cells_of(Figures(table)._repr_html_())
+    _, row = cells_of(ItemFigures(table)._repr_html_())
     assert row == ["A", *money, "92.7%", "92.740%", "0.0712", "1,234.57", "1234"]
 
 
@@ -266,7 +266,7 @@ def test_a_number_of_a_fraction_is_shown_as_it_is() -> None:
     from crnplan.table import exact
 
     table = DataTable([exact("mean", "items", "of it")], [[Fraction(7, 2)], [None]])
-    assert cells_of(Figures(table)._repr_html_()) == [["mean"], ["7/2"], ["-"]]
+    assert cells_of(ItemFigures(table)._repr_html_()) == [["mean"], ["7/2"], ["-"]]
 
 
 def test_trajectories(results: Mapping[str, Result], program: Path) -> None:

@@ -10,7 +10,7 @@ from typing import Any
 import pytest
 
 import crnplan as crn
-from crnplan.table import Cell, Result
+from crnplan.table import TableCell, Result
 
 # The amounts of one scenario are a tenth of those of the other, and both have the same whole numbers.
 TENTHS: dict[str, Any] = {"setup": 12, "unit": "0.3", "holding": 1, "backlog": 9.5}
@@ -41,7 +41,7 @@ CALLS: dict[str, Callable[[crn.Scenario, Path], Result]] = {
 }
 
 
-def in_tenths(cell: Cell, power: int) -> Any:
+def in_tenths(cell: TableCell, power: int) -> Any:
     """Returns a cell of the scenario in whole money, in the money of the other."""
     if cell is None or isinstance(cell, str):
         return cell

@@ -11,7 +11,7 @@ import numpy as np
 import pandas as pd
 import pytest
 
-from crnplan.crnsim.periods import Past, periods_of
+from crnplan.crnsim.periods import Realization, periods_of
 from crnplan.demand.fitted import DOUBT
 from crnplan.demand.losses import STUDIED, losses
 from crnplan.plan.seasons import Seasons
@@ -296,7 +296,7 @@ def test_levels_of_a_shop() -> None:
         asked, back = shop.counts[item, record:], shop.returned[item, record:]
         leads = [int(shop.leads[item])] * by_commands.LATER
         pairs = [(int(s), int(S)) for s, S in levels[item]]
-        past = Past(asked.tolist(), back.tolist(), leads)
+        past = Realization(asked.tolist(), back.tolist(), leads)
         periods = periods_of(past, pairs, round(sum(pairs[0]) / 2))
         assert met["unmet"][item].tolist() == [period.unmet for period in periods]
         assert met["stock"][item].tolist() == [max(it.stock, 0) for it in periods]

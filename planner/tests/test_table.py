@@ -20,7 +20,7 @@ from hypothesis import given, strategies as st
 from crnplan.show.catalogue_tables import DECISION_COLUMNS, DETAIL_COLUMNS
 from crnplan.table import (
     MONEY,
-    Cell,
+    TableCell,
     DataTable,
     aligned,
     exact,
@@ -39,7 +39,7 @@ COLUMNS = (
     number("share", "share", "share", ".4f", ".1%"),
     exact("mean", "items", "mean"),
 )
-ROWS: list[list[Cell]] = [
+ROWS: list[list[TableCell]] = [
     ["A", 3, 1234.5678, 0.25, Fraction(7, 2)],
     ["b, c", None, math.nan, None, None],
     ["-", -4, -0.001, 1, 5],

@@ -8,11 +8,11 @@ import pandas as pd
 
 import crnplan as crn
 from crnplan.crnsim.trajectory import Trajectories
-from crnplan.curve.exchange_curve import Drawn
+from crnplan.curve.exchange_curve import ExchangeCurve
 from crnplan.decide.verdicts import Decision
 from crnplan.plan.totals import Totals
 from crnplan.plan.what_ifs import Moves
-from crnplan.planned import Figures
+from crnplan.planned import ItemFigures
 from crnplan.drawing.pictures import Picture
 from crnplan.theory.suggestions import ByTheory, Suggestions
 
@@ -56,10 +56,10 @@ def orders(plan: crn.Plan, stock: Frame) -> None:
     assert_type(today.frame, Frame)
     assert_type(today.lines, Frame)
     assert_type(today.text, str)
-    assert_type(plan.curve(fill=0.97), Drawn)
+    assert_type(plan.curve(fill=0.97), ExchangeCurve)
     assert_type(plan.curve().policies, Frame)
     assert_type(plan.curve().plot(), Picture)
-    assert_type(crn.exchange_curve("plan", orders=3.5), Drawn)
+    assert_type(crn.exchange_curve("plan", orders=3.5), ExchangeCurve)
 
 
 def item(plan: crn.Plan) -> None:
@@ -67,8 +67,8 @@ def item(plan: crn.Plan) -> None:
     planned = plan.item(4711)
     assert_type(planned, crn.PlannedItem)
     assert_type(planned.scenario, crn.Scenario)
-    assert_type(planned.compare(), Figures)
-    assert_type(planned.doubt(), Figures)
+    assert_type(planned.compare(), ItemFigures)
+    assert_type(planned.doubt(), ItemFigures)
     assert_type(planned.moves(), Moves)
     assert_type(planned.page, str)
 

@@ -12,9 +12,9 @@ from typing import Any
 
 from .table import Column
 
-Cells = Mapping[str, Callable[[Any], Any]]
-Words = Mapping[str, object]
-NO_CELLS: Cells = MappingProxyType({})
+CellMakers = Mapping[str, Callable[[Any], Any]]
+ColumnWords = Mapping[str, object]
+NO_CELLS: CellMakers = MappingProxyType({})
 
 
 @functools.cache
@@ -35,7 +35,7 @@ def whole_entry(package: str, entry: Sequence[str]) -> Sequence[str]:
 
 
 def _column(
-    package: str, name: str, entry: Sequence[str], cells: Cells, words: Words
+    package: str, name: str, entry: Sequence[str], cells: CellMakers, words: ColumnWords
 ) -> Column:
     """Returns a declared column with words in place of those in braces."""
     form, path, meaning = whole_entry(package, entry)
@@ -48,8 +48,8 @@ def _column(
 def columns_of(
     package: str,
     table: str,
-    cells: Cells = NO_CELLS,
-    each: Sequence[Words] = ({},),
+    cells: CellMakers = NO_CELLS,
+    each: Sequence[ColumnWords] = ({},),
     **words: object,
 ) -> tuple[Column, ...]:
     """Returns the columns of a table of a package in their order.

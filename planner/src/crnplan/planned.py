@@ -10,7 +10,7 @@ from typing import TYPE_CHECKING, Any, ClassVar, SupportsIndex
 
 from .crnsim.periods import Period
 from .crnsim.pictures import trajectories_picture
-from .curve.exchange_curve import Drawn, exchange_curve
+from .curve.exchange_curve import ExchangeCurve, exchange_curve
 from .drawing.pictures import Picture, savings_picture
 from .read.judging import judged
 from .catalogues import Catalogue
@@ -51,7 +51,7 @@ if TYPE_CHECKING:
 
 
 @dataclass(frozen=True, eq=False, repr=False)
-class Figures(Result):
+class ItemFigures(Result):
     """A table of an item's plan, with what is said of it."""
 
     cells: DataTable = field(repr=False)
@@ -106,14 +106,14 @@ class PlannedItem(Result):
             [self.words.headline, *self.words.said, *self.words.warnings, ""]
         )
 
-    def compare(self) -> Figures:
+    def compare(self) -> ItemFigures:
         """Returns all policies of the item: cost by theory and by crnsim, service, stock, orders, and the difference
         from today's, or else from the chosen one's, with its interval."""
-        return Figures(policies_of(self.words), "\n".join(self.words.said))
+        return ItemFigures(policies_of(self.words), "\n".join(self.words.said))
 
-    def doubt(self) -> Figures:
+    def doubt(self) -> ItemFigures:
         """Returns what each policy costs and meets under the laws that the item's history allows."""
-        return Figures(self.words.doubt, self.words.promise)
+        return ItemFigures(self.words.doubt, self.words.promise)
 
     def moves(self) -> Moves:
         """Returns how the best policy moves if a cost, the demand or the lead time differs, and what the chosen one
@@ -309,7 +309,7 @@ class Plan(Result):
         confirm: int = 0,
         jobs: int | None = None,
         cluster: Scheduler | None = None,
-    ) -> Drawn:
+    ) -> ExchangeCurve:
         """Returns how much service the whole stock can give for its value: see `exchange_curve`.
 
         Parameters
@@ -327,7 +327,7 @@ class Plan(Result):
 
         Returns
         -------
-        Drawn
+        ExchangeCurve
             `frame` has the points, and `policies` the policy of each item for the budget.
         """
         drawn = exchange_curve(

@@ -6,7 +6,7 @@ from pathlib import Path
 from typing import TYPE_CHECKING
 
 from . import formats
-from .crnsim.report import COLUMNS, MONEY_COLUMNS, Row, csv_of, rows_of_run
+from .crnsim.report import COLUMNS, MONEY_COLUMNS, ReportRow, csv_of, rows_of_run
 from .decide.verdicts import Decision, decided
 from .policies import Policies, Policy, policies_of
 from .read.judging import judged
@@ -24,7 +24,7 @@ if TYPE_CHECKING:
 class Report(Result):
     """What crnsim reports of a scenario: exact rows, the base first, in the money that the scenario was made from."""
 
-    rows: tuple[Row, ...]
+    rows: tuple[ReportRow, ...]
     scenario: Scenario
 
     @property

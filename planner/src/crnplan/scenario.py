@@ -9,12 +9,12 @@ from collections.abc import Iterable, Mapping, Sequence
 from dataclasses import dataclass, field
 from fractions import Fraction
 from pathlib import Path
-from typing import Any, Self
+from typing import Self
 
 from .arguments import judged
 from . import formats
 from .changing import change_tree, key_words
-from .toml.documents import check_size, read_bytes, text_of_document
+from .toml.documents import Tree, check_size, read_bytes, text_of_document
 from .toml.scenarios import (
     check_tree,
     error_of,
@@ -28,7 +28,6 @@ from .money import Amount, Costs as Costs, scaled_costs, whole
 from .policies import Policy, levels_of
 from .table import Json
 
-Tree = dict[str, Any]
 NO_POLICY = range(1)  # the number of policies of a scenario that is made without one
 # What is said of all figures of a scenario.
 BY_ITS_LAWS = "by this law of demand, and this law of lead times; the history allows others, as the page of an item says"

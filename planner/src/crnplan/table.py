@@ -21,9 +21,9 @@ from .words import counted
 if TYPE_CHECKING:
     import pandas as pd
 
-Cell = str | int | float | Fraction | None
+TableCell = str | int | float | Fraction | None
 Json = str | int | float | bool | None | Sequence["Json"] | Mapping[str, "Json"]
-Kind = Literal["text", "name", "whole", "number", "exact", "fraction"]
+CellKind = Literal["text", "name", "whole", "number", "exact", "fraction"]
 # The spelling of money: with as many decimals as its smallest unit has.
 MONEY = "money"
 TYPES = {"whole": "Int64", "number": float}
@@ -63,7 +63,7 @@ class Column:
     meaning: str
     written: str = ""
     shown: str = ""
-    kind: Kind = "number"
+    kind: CellKind = "number"
     fact: Callable[[Any], Any] | None = field(default=None, compare=False)
 
     def by(self, fact: str | Callable[[Any], Any]) -> Column:
@@ -71,11 +71,11 @@ class Column:
         that, as `item.name`. Without a part of the path there is no figure."""
         return replace(self, fact=at(fact) if isinstance(fact, str) else fact)
 
-    def cell(self, thing: object) -> Cell:
+    def cell(self, thing: object) -> TableCell:
         """Returns the cell of a row: a text or a figure, of a column of rounded numbers a rounded one."""
         assert self.fact, f"it is not declared how a cell of {self.name} is made"
         fact = self.fact(thing)
-        cell: Cell = fact
+        cell: TableCell = fact
         if fact is not None and self.is_text:
             cell = str(fact)
         elif self.kind == "number" and isinstance(fact, Fraction):
@@ -108,7 +108,7 @@ class Column:
 
     def speller(
         self, decimals: int, missing: str, is_shown: bool = False
-    ) -> Callable[[Cell], str]:
+    ) -> Callable[[TableCell], str]:
         """Returns the function that spells a cell. Money has so many decimals; `missing` stands for no figure."""
         style = self.shown if is_shown and self.shown else self.written
         if style.endswith(MONEY):
@@ -127,7 +127,7 @@ class Column:
         elif self.kind == "fraction" and not is_shown:
             spell = fraction_text
 
-        def spelt(value: Cell) -> str:
+        def spelt(value: TableCell) -> str:
             return missing if is_missing(value) else spell(value)
 
         return spelt
@@ -164,13 +164,13 @@ def at(path: str) -> Callable[[Any], Any]:
     return fact
 
 
-def shortened(cell: Cell) -> Cell:
+def shortened(cell: TableCell) -> TableCell:
     """Returns a cell, with the end of a long text left out."""
     is_long = isinstance(cell, str) and len(cell) > MOST_LETTERS
     return f"{str(cell)[:MOST_LETTERS]} .." if is_long else cell
 
 
-def is_missing(value: Cell) -> bool:
+def is_missing(value: TableCell) -> bool:
     """Returns whether a cell has no figure: None or nan."""
     return value is None or isinstance(value, float) and math.isnan(value)
 
@@ -180,18 +180,18 @@ def fraction_text(number: int | Fraction) -> str:
     return f"{number.numerator}/{number.denominator}"
 
 
-def plain(cell: Cell) -> str | int | float | None:
+def plain(cell: TableCell) -> str | int | float | None:
     """Returns a cell as plain data: a fraction as a text, None for no figure."""
     if isinstance(cell, Fraction):
         return fraction_text(cell)
     return None if is_missing(cell) else cell
 
 
-def keys_of(names: Sequence[Cell], kind: str) -> tuple[list[Cell], Any]:
+def keys_of(names: Sequence[TableCell], kind: str) -> tuple[list[TableCell], Any]:
     """Returns names of items as whole numbers, None if there is none, with the type of their column: the stated one if
     all are such, one that may lack some, or any if a name is a text, as `A7` or `0017`.
     """
-    keys = list[Cell]()
+    keys = list[TableCell]()
     for name in names:
         is_whole = WHOLE_NAME.fullmatch(str(name))
         keys.append(int(str(name)) if is_whole else name or None)
@@ -217,7 +217,7 @@ class DataTable:
     """
 
     columns: Sequence[Column]
-    rows: Iterable[Sequence[Cell]]
+    rows: Iterable[Sequence[TableCell]]
     decimals: int = 2
     missing: str = "-"
     index: str = ""
@@ -236,11 +236,11 @@ class DataTable:
         """Returns the table with a row for each thing; of an iterator, rows are made as they are needed. Further words
         are those of a table."""
 
-        def rows() -> Iterator[list[Cell]]:
+        def rows() -> Iterator[list[TableCell]]:
             for thing in things:
                 yield [column.cell(thing) for column in columns]
 
-        made: Iterable[list[Cell]] = rows()
+        made: Iterable[list[TableCell]] = rows()
         if isinstance(things, Sequence):
             made = [*made]
         return cls(columns, made, *words, **named)
@@ -271,7 +271,7 @@ class DataTable:
 
     def spelt(self, is_shown: bool = False) -> Iterator[list[str]]:
         """Yields the heading and the rows as texts: as a file has them, or as they are shown to a reader."""
-        spellers = list[Callable[[Cell], str]]()
+        spellers = list[Callable[[TableCell], str]]()
         for column in self.columns:
             spellers.append(column.speller(self.decimals, self.missing, is_shown))
         yield self.names
@@ -357,7 +357,7 @@ class DataTable:
         them, and what is left out."""
         known = [name for name in names if name in self.names]
         some = self.with_columns((known or self.names)[:MOST_COLUMNS])
-        every, rows, left = [*some.rows], list[list[Cell]](), list[str]()
+        every, rows, left = [*some.rows], list[list[TableCell]](), list[str]()
         shown = every if len(every) <= 2 * MOST_ROWS else every[:MOST_ROWS]
         for row in shown:
             rows.append([shortened(cell) for cell in row])

@@ -16,7 +16,7 @@ from crnplan.plan.answer import Answer
 from crnplan.plan.aims import Aims, Tried
 from crnplan.plan.backtest.methods import (
     CORRECTED,
-    Plan,
+    PlanInUse,
     Walk,
     Walked,
     Way,
@@ -30,7 +30,7 @@ from crnplan.plan.backtest.one import (
     backtest_one,
     shuffled,
 )
-from crnplan.plan.backtest.outcomes import Run
+from crnplan.plan.backtest.outcomes import MethodRun
 from crnplan.plan.one import plan_one
 from crnplan.plan.how import NONE, Settings
 from crnplan.plan.question import question_of
@@ -140,7 +140,7 @@ def test_damped_refits(least: float, program: Path) -> None:
         )
         promises = test.damped.promised_cost or 0, test.damped.promised_fill or 0
         assert test.damped == Walked(item, settings, OWN, walk).happened.traced(
-            Run([used[0]] * 40 + used, [promises])
+            MethodRun([used[0]] * 40 + used, [promises])
         )
         assert test.refitted == backtest_one(item, settings, OWN, WALK).refitted
     assert seen == {False, True}
@@ -229,7 +229,7 @@ def test_aims_are_the_least_levels_of_their_fill_rates() -> None:
     """By a Markov chain the levels of an aim meet its fill rate at once, and a level less does not. At the aim of the plan
     itself they are those of the plan."""
     settings, item = alone(fit="empirical"), item_of(fill=Fraction(9, 10))
-    plan = Plan(
+    plan = PlanInUse(
         question_of(item, settings, OWN), Walked(item, settings, OWN, Walk(60)).plan, 1
     )
     rates = aims_about(0.9)

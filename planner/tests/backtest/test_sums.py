@@ -22,7 +22,7 @@ from crnplan.plan.backtest.sums import (
     RARE,
     TIME,
     UNSURE,
-    Group,
+    TestGroup,
     Sums,
     sums_of,
 )
@@ -177,7 +177,7 @@ def test_error_of_items_that_move_together() -> None:
     source = np.random.default_rng(3)
     unmet = source.integers(0, 3, PERIODS).tolist()
     errors = [
-        Group([made(unmet, unmet, place) for place in range(count)])
+        TestGroup([made(unmet, unmet, place) for place in range(count)])
         .missed()
         .estimate.error
         for count in (10, 40, 160)
@@ -291,7 +291,7 @@ def test_records_of_other_lengths() -> None:
     early, late = made([1] * PERIODS, [0] * PERIODS, 0), made(
         [1] * 20, [0] * 20, 1, first=84
     )
-    group = Group([early, late])
+    group = TestGroup([early, late])
     assert group.blocks.tolist() == [
         *(np.arange(PERIODS) // BLOCK),
         *((32 + np.arange(20)) // BLOCK),

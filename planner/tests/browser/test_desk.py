@@ -12,7 +12,7 @@ from urllib.parse import urlsplit
 
 import pytest
 
-from crnplan.desk.kept import PLANS, Begun, Override, Placed
+from crnplan.desk.kept import PLANS, Begun, DeskOverride, Placed
 from crnplan.desk.work import PLANNING
 from planner.tests.browser.browser import Browser, Form
 from planner.tests.browser.conftest import HOSTILE, MARKUP
@@ -55,7 +55,9 @@ def planned(folder: Path, program: Path) -> None:
         wait_for(lambda: front.work is None)
         assert desk.state.said == [] and desk.state.plans == [MADE_PLAN]
         with desk.changing() as state:
-            state.overrides["P-001"] = Override("P-001", 3, 9, reason="<b>shelf</b>")
+            state.overrides["P-001"] = DeskOverride(
+                "P-001", 3, 9, reason="<b>shelf</b>"
+            )
             state.placed.append(Placed("P-002", 6, "1", "2026-11-27 08:00:00"))
 
 
@@ -167,7 +169,7 @@ def hostile(folder: Path, program: Path) -> None:
         wait_for(lambda: front.work is None)
         assert desk.state.said == [] and desk.state.plans == [MADE_PLAN]
         with desk.changing() as state:
-            state.overrides[MARKUP] = Override(MARKUP, 3, 9, reason=MARKUP)
+            state.overrides[MARKUP] = DeskOverride(MARKUP, 3, 9, reason=MARKUP)
             state.placed.append(Placed(MARKUP, 6, MARKUP, "2026-11-27 08:00:00"))
 
 

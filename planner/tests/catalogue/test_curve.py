@@ -21,7 +21,7 @@ from crnplan.curve.budget import Budget, chosen_by, with_more_orders
 from crnplan.curve.exchange_curve import (
     CURVE,
     POLICIES,
-    Drawn,
+    ExchangeCurve,
     exchange_curve,
     points_of,
 )
@@ -69,7 +69,7 @@ def plan(twenty: Path, tmp_path: Path) -> Path:
     return Path(shutil.copytree(twenty, tmp_path / "plan"))
 
 
-def drawn(plan: Path, budget: Budget = Budget()) -> Drawn:
+def drawn(plan: Path, budget: Budget = Budget()) -> ExchangeCurve:
     words = {"fill": budget.fill, "orders": budget.orders}
     return exchange_curve(plan, stock_value=budget.value, jobs=1, **words)
 

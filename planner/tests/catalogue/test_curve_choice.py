@@ -31,7 +31,7 @@ from crnplan.curve.candidates import (
 )
 from crnplan.curve.budget import Budget, chosen_by, gap_of
 from crnplan.curve.exchange import AS_IS, Items
-from crnplan.curve.parts import UNMET, VALUE, Dearer, Part, Point
+from crnplan.curve.parts import UNMET, VALUE, Dearer, CurvePart, Point
 from crnplan.errors import Refused
 from crnplan.plan.catalogue import planned_folder
 
@@ -123,7 +123,7 @@ def made_item(source: np.random.Generator, count: int) -> tuple[Candidates, Floa
 def in_parts(answers: Sequence[Named], size: int) -> Items:
     """Returns items in parts of a size."""
     firsts = range(0, len(answers), size)
-    parts = [Part.of(answers[first : first + size]) for first in firsts]
+    parts = [CurvePart.of(answers[first : first + size]) for first in firsts]
     return Items(lambda function, *columns: map(function, parts, *columns))
 
 
@@ -338,7 +338,7 @@ def test_any_parts(
 def test_memory_of_many_parts(monkeypatch: pytest.MonkeyPatch) -> None:
     """Takes at most 2 kB of memory for a further part."""
     monkeypatch.setattr(exchange, "MOST_STEPS", 1_000)
-    part, peaks = Part.of(twins_of(*made_item(np.random.default_rng(0), 9), 0)), []
+    part, peaks = CurvePart.of(twins_of(*made_item(np.random.default_rng(0), 9), 0)), []
     for count in (30, 300):
         tracemalloc.start()
         many = [part] * count

@@ -10,7 +10,7 @@ import pandas as pd
 import pytest
 
 import crnplan as crn
-from crnplan.demand.level import Moves, factor_of, weight_of
+from crnplan.demand.level import BlockSums, factor_of, weight_of
 from crnplan.plan.answer import Answer
 from crnplan.plan.catalogue import planned_folder
 from crnplan.plan.learned import FOLLOWING
@@ -54,7 +54,7 @@ def test_plans_at_the_level(room: Path) -> None:
     plan, mean = whole_table(room / "plan"), whole_table(room / "mean")
     moved = plan["class"] == "b"
     pd.testing.assert_frame_equal(plan[~moved], mean[~moved])
-    weight = weight_of([Moves.of(counts) for counts in COUNTS[1::2]])
+    weight = weight_of([BlockSums.of(counts) for counts in COUNTS[1::2]])
     assert weight > 0.5
     laws = list[list[float]]()
     for name in ("plan", "mean"):

@@ -18,7 +18,7 @@ from typing import Any
 import pytest
 
 import crnplan as crn
-from crnplan.plan.answer import Run
+from crnplan.plan.answer import CheckRun
 from crnplan.plan.how import Settings
 from crnplan.plan.question import Question
 from planner.tests.catalogue.audit import Audit, audit
@@ -91,7 +91,7 @@ def amount(text: str) -> Fraction:
 
 
 def ran(
-    program: Path, levels: Row, run: Run, lead: str, counts: Counter[int]
+    program: Path, levels: Row, run: CheckRun, lead: str, counts: Counter[int]
 ) -> tuple[Row, Row]:
     """Returns what the program says of today's and the chosen policy of an item."""
     law = {"values": sorted(counts), "weights": [counts[it] for it in sorted(counts)]}

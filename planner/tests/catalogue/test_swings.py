@@ -15,7 +15,7 @@ import crnplan as crn
 from crnplan.law import Law
 from crnplan.plan import swings
 from crnplan.plan.answer import CHEAPER, THEORY, Answer
-from crnplan.plan.drawn import MOST, Drawn, Draws
+from crnplan.plan.drawn import MOST, DrawnItems, Draws
 from crnplan.plan.choice import choice_of
 from crnplan.plan.question import question_of
 from crnplan.plan.survey import size_of
@@ -28,7 +28,7 @@ from crnplan.plan.swings import (
     LAWS,
     LEAST_ERROR,
     TODAY,
-    Known,
+    KnownSwings,
     Swing,
     Swings,
     changed_lead,
@@ -193,8 +193,8 @@ def pairs_of(count: int) -> list[Pair]:
     ]
 
 
-def all_of(pairs: Sequence[Pair]) -> Drawn:
-    return Drawn(frozenset(item.name for item, _ in pairs), {})
+def all_of(pairs: Sequence[Pair]) -> DrawnItems:
+    return DrawnItems(frozenset(item.name for item, _ in pairs), {})
 
 
 def test_what_a_case_does_not_change() -> None:
@@ -203,7 +203,7 @@ def test_what_a_case_does_not_change() -> None:
     pairs = pairs_of(5)
     totals = Totals.of(pairs)
     found = swings_of(
-        [Known(item, answer, rows_of(answer)) for item, answer in pairs],
+        [KnownSwings(item, answer, rows_of(answer)) for item, answer in pairs],
         all_of(pairs),
         totals,
     )
@@ -226,7 +226,7 @@ def test_what_a_case_does_not_change() -> None:
         assert case.unmet == pytest.approx(planned.unmet)
     plain = [(replace(item, backlog=None), answer) for item, answer in pairs]
     without = swings_of(
-        [Known(item, answer, rows_of(answer)) for item, answer in plain],
+        [KnownSwings(item, answer, rows_of(answer)) for item, answer in plain],
         all_of(plain),
         Totals.of(plain),
     )
@@ -241,7 +241,7 @@ def test_cases_without_items() -> None:
     known of that case."""
     pairs = pairs_of(3)
     known = [
-        Known(
+        KnownSwings(
             item,
             answer,
             Swing(
@@ -265,7 +265,9 @@ def test_cases_without_items() -> None:
         case[:2] for case in found.cases
     }
     assert not found.cases[-1].cost.is_known() and found.cases[-2].cost.is_known()
-    nothing = [Known(item, answer, Swing(((),) * len(CASES))) for item, answer in pairs]
+    nothing = [
+        KnownSwings(item, answer, Swing(((),) * len(CASES))) for item, answer in pairs
+    ]
     assert swings_of(nothing, all_of(pairs), Totals.of(pairs)) is None
 
 
@@ -275,9 +277,9 @@ def test_shares_stay_shares() -> None:
     for price in (Fraction(3), None):
         priced = [(replace(item, price=price), answer) for item, answer in pairs]
         names = [item.name for item, _ in priced]
-        some = Drawn(frozenset(names[:1]), dict.fromkeys(names[1:4], 0.6))
+        some = DrawnItems(frozenset(names[:1]), dict.fromkeys(names[1:4], 0.6))
         known = [
-            Known(item, answer, rows_of(answer, fill=0.0))
+            KnownSwings(item, answer, rows_of(answer, fill=0.0))
             for item, answer in priced[:4]
         ]
         found = swings_of(known, some, Totals.of(priced))
@@ -287,7 +289,7 @@ def test_shares_stay_shares() -> None:
             if case.what in LAWS
         )
         known = [
-            Known(item, answer, rows_of(answer, fill=1.0))
+            KnownSwings(item, answer, rows_of(answer, fill=1.0))
             for item, answer in priced[:4]
         ]
         found = swings_of(known, some, Totals.of(priced))
@@ -343,10 +345,12 @@ def skewed_pairs(count: int) -> Iterator[tuple[Pair, Swing]]:
         yield (item, answer), swing_of(replace(question, cells=CELLS), chosen)
 
 
-def estimates_of(every: Sequence[Known], draw: int) -> tuple[Swings, Swings]:
+def estimates_of(every: Sequence[KnownSwings], draw: int) -> tuple[Swings, Swings]:
     """Returns all cases as they are estimated, and as all items have them. Names decide which items are drawn."""
     named = [
-        Known(replace(one.item, name=f"{draw}-{one.item.name}"), one.answer, one.swing)
+        KnownSwings(
+            replace(one.item, name=f"{draw}-{one.item.name}"), one.answer, one.swing
+        )
         for one in every
     ]
     pairs, draws = [(one.item, one.answer) for one in named], Draws()
@@ -366,7 +370,7 @@ def test_estimates_lie_within_their_errors() -> None:
     """From 120 of 300 items, one of which carries 40% of all costs, most figures lie within two standard errors of those
     of all items. Each that is shown is less than a fifth off, and shares lie between 0 and 1.
     """
-    every = [Known(*pair, swing) for pair, swing in skewed_pairs(300)]
+    every = [KnownSwings(*pair, swing) for pair, swing in skewed_pairs(300)]
     sizes = [size_of(one.answer) for one in every]
     assert max(sizes) > 0.4 * sum(sizes)
     scores = {name: list[float]() for name in ("cost", "saving", "beyond", "unmet")}

@@ -18,7 +18,7 @@ from crnplan.plan.backtest.catalogue import past_of as past_of_folder
 from crnplan.plan.backtest.one import Walk
 from crnplan.plan.catalogue import planned_folder
 from crnplan.plan.correction import blocks_of
-from crnplan.plan.drawn import Drawn
+from crnplan.plan.drawn import DrawnItems
 from crnplan.plan.offers import Asked, ByPrice, Offer, met_on_past, past_of
 from crnplan.plan.prices import REST, Price
 from crnplan.plan.how import NONE, Settings
@@ -167,7 +167,7 @@ def test_drawn_items_by_hand() -> None:
     """Those that were taken count as they are. The others follow their sizes: these are 60 in all, of which 10 and 20 were
     drawn with chances of 1/4 and 1/2. So their demand is (8 / 0.25 + 24 / 0.5) / (10 / 0.25 + 20 / 0.5) = 1 of it, 60, and
     what they leave unmet is (2 / 0.25 + 4 / 0.5) / 80 = 0.2 of it, 12."""
-    drawn = Drawn(frozenset(["A"]), {"B": 0.25, "C": 0.5})
+    drawn = DrawnItems(frozenset(["A"]), {"B": 0.25, "C": 0.5})
     sizes = {"A": 40.0, "B": 10.0, "C": 20.0}
     known = {
         "A": Offer(36.0, (6.0,)),
@@ -175,7 +175,7 @@ def test_drawn_items_by_hand() -> None:
         "C": Offer(24.0, (4.0,)),
     }
     assert met_on_past(known, drawn, sizes, 100.0) == pytest.approx([1 - 18 / 96])
-    every = Drawn(frozenset("ABC"), {})
+    every = DrawnItems(frozenset("ABC"), {})
     assert met_on_past(known, every, sizes, 70.0) == pytest.approx([1 - 12 / 68])
 
 

@@ -23,7 +23,7 @@ from crnplan.read.cells import Unreadable
 from crnplan.read.dates import DateReader
 from crnplan.read.items import Reading
 from crnplan.read.told import made_from, merged, told_of
-from crnplan.toml.rules import Table
+from crnplan.toml.rules import TableCheck
 from planner.tests.catalogue.conftest import TABLES
 from planner.tests.conftest import Answer, Command
 
@@ -123,7 +123,7 @@ def test_each_word_has_a_case() -> None:
     options = {str(option.name) for option in catalogue.params}
     assert options - OTHERS == CASES.keys()
     rules = CATALOGUE_RULES.keys["catalogue"]
-    assert isinstance(rules, Table)
+    assert isinstance(rules, TableCheck)
     kept = {case.get("key", name) for name, case in CASES.items()}
     assert rules.keys.keys() == kept | KEYS.keys() | {"items", "orders"}
 

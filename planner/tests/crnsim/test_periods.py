@@ -10,15 +10,17 @@ import numpy as np
 import pytest
 from hypothesis import given, settings, strategies as st
 
-from crnplan.crnsim.periods import Past, Rates, periods_of
+from crnplan.crnsim.periods import Realization, Rates, periods_of
 from crnplan.runs import Scenario
 from planner.tests.crnsim.slow import scenarios
 from tests.program import oracle
 
-STEADY = Past([3] * 4, [0] * 4, [1] * 4)  # as in the checkpoint of docs/FORMATS.md
+STEADY = Realization(
+    [3] * 4, [0] * 4, [1] * 4
+)  # as in the checkpoint of docs/FORMATS.md
 
 
-def pasts(scenario: Scenario, box: int) -> Iterator[Past]:
+def pasts(scenario: Scenario, box: int) -> Iterator[Realization]:
     """Yields what each replication of a scenario draws, by the second program of the tests, in boxes."""
     drawn = oracle.Scenario(scenario.toml())
     for replication in range(scenario.replications):
@@ -27,7 +29,9 @@ def pasts(scenario: Scenario, box: int) -> Iterator[Past]:
             for stream in ("demand", "lead", "returns")
         )
         back = returns if scenario.returns else 0 * demands
-        yield Past((box * demands).tolist(), (box * back).tolist(), leads.tolist())
+        yield Realization(
+            (box * demands).tolist(), (box * back).tolist(), leads.tolist()
+        )
 
 
 def totals(scenario: Scenario, box: int = 1) -> list[Any]:
@@ -76,7 +80,7 @@ def test_unmet_demand() -> None:
     From a stock of 2, demands of 3 and 4 leave 1 and 4 unmet. Then 6 come back, of which 5 go to those who wait: 1 is
     left to sell, and 4 of a demand of 5 are unmet.
     """
-    past = Past([3, 4, 5], [0, 0, 6], [9, 9, 9])
+    past = Realization([3, 4, 5], [0, 0, 6], [9, 9, 9])
     assert [period.unmet for period in periods_of(past, repeat((0, 0), 3), 2)] == [
         1,
         4,
@@ -86,7 +90,7 @@ def test_unmet_demand() -> None:
 
 def test_levels_may_change() -> None:
     """A policy whose levels change orders by those of the period: up to 10, and after a refit up to 20."""
-    past = Past([1, 1, 1], [0, 0, 0], [1, 1, 1])
+    past = Realization([1, 1, 1], [0, 0, 0], [1, 1, 1])
     periods = periods_of(past, [(5, 10), (0, 0), (10, 20)], 4)
     assert [period.ordered for period in periods] == [6, 0, 12]
     assert [period.stock for period in periods] == [3, 8, 7]

@@ -23,7 +23,7 @@ from crnplan.crnsim.program import (
     run_all,
     run_program,
 )
-from crnplan.crnsim.report import Row, counting, csv_of, pooled, read_rows
+from crnplan.crnsim.report import ReportRow, counting, csv_of, pooled, read_rows
 from crnplan.runs import Report
 from crnplan.errors import ProgramError, Refused
 from crnplan.formats import COSTS
@@ -210,7 +210,7 @@ def test_values_and_counts(two_policies: str, program: Path) -> None:
     rows = read_rows(TEXT)
     fractions = Fraction(-11, 2), Fraction(7, 2), Fraction(-1, 9)
     figures = [60, 80, 200, Fraction(50), -22, *fractions]
-    assert rows[1] == Row("B", *figures)  # type: ignore[arg-type]
+    assert rows[1] == ReportRow("B", *figures)  # type: ignore[arg-type]
     assert csv_of(rows) == TEXT
     assert read_rows(TEXT.replace("\n", "\r\n")) == rows
     signs = TEXT.replace(

@@ -9,7 +9,7 @@ from pathlib import Path
 
 import pytest
 
-from crnplan.crnsim.report import Row
+from crnplan.crnsim.report import ReportRow
 from planner.tests.conftest import Command
 
 
@@ -57,7 +57,7 @@ def pairs_sum(first: Sequence[int], second: Sequence[int]) -> int:
     )
 
 
-def rows_of_costs(costs: Mapping[str, Sequence[int]], periods: int) -> list[Row]:
+def rows_of_costs(costs: Mapping[str, Sequence[int]], periods: int) -> list[ReportRow]:
     """Returns the report of the costs of each policy in each replication, the first policy as the base."""
     base = next(iter(costs.values()))
     count, rows = len(base), []
@@ -70,7 +70,7 @@ def rows_of_costs(costs: Mapping[str, Sequence[int]], periods: int) -> list[Row]
             )
             covariance = Fraction(pairs_sum(own, base), count * (count - 1))
         rows.append(
-            Row(
+            ReportRow(
                 name,
                 place,
                 place + 2,

@@ -11,7 +11,7 @@ import pandas as pd
 import pytest
 from scipy import stats
 
-from crnplan.crnsim.report import Row
+from crnplan.crnsim.report import ReportRow
 from crnplan.decide import long_run
 from crnplan.decide.long_run import LongRunReport, start_warning
 from crnplan.decide.verdicts import Compared, Decision
@@ -85,7 +85,7 @@ def bias_of(scenario: Scenario, policy: Policy) -> float:
 
 
 def check_intervals(
-    scenario: Scenario, rows: Sequence[Row], found: Decision, level: float
+    scenario: Scenario, rows: Sequence[ReportRow], found: Decision, level: float
 ) -> None:
     """Compares costs, differences and intervals with those of exact costs, less the bias by a chain. It moves intervals,
     and leaves their widths."""
@@ -172,7 +172,7 @@ def test_effects_of_the_start(program: Path, monkeypatch: pytest.MonkeyPatch) ->
     assert not start_warning(rows, PART)
 
 
-def effects_of(scenario: Scenario, rows: Sequence[Row]) -> dict[str, float]:
+def effects_of(scenario: Scenario, rows: Sequence[ReportRow]) -> dict[str, float]:
     """Returns by a chain what the start adds to each difference, in standard errors."""
     first, *others = (bias_of(scenario, it) for it in scenario.policies)
     return {

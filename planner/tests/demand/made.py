@@ -11,7 +11,7 @@ from scipy import stats
 
 from crnplan.chances import Floats
 from crnplan.demand import grid
-from crnplan.demand.learning import Learned
+from crnplan.demand.learning import GridPrior
 from crnplan.demand.sample import Sample
 from crnplan.law import Law
 
@@ -49,7 +49,7 @@ def logarithms(numbers: Sequence[int]) -> Floats:
     return np.add.outer(shares, its.ravel())
 
 
-def pulled(histories: Sequence[Sequence[int]], whole: Learned) -> Floats:
+def pulled(histories: Sequence[Sequence[int]], whole: GridPrior) -> Floats:
     """Returns the prior of some items that is pulled to that of the catalogue, as if by 30 more."""
     chunks = grid.chunks_of(Sample.of(it) for it in histories)
     return grid.estimated(chunks, whole.chances, 30 * whole.chances)

@@ -16,7 +16,7 @@ from scipy import stats
 
 import crnplan as crn
 from crnplan.demand.checks import Checks, check_history, checks_of
-from crnplan.demand.order_tests import Check
+from crnplan.demand.order_tests import OrderTest
 from crnplan.demand.losses import STUDIED, Loss, loss_of, losses
 from crnplan.demand.seasons import Season, seasons_of
 from crnplan.demand.permutation import drawn_orders
@@ -60,7 +60,7 @@ def seasons(length: int, first: date, every: str) -> list[Season]:
 
 def test_quiet_history() -> None:
     """Independent demand has no warning, and what would be seen is said. Tests warn up to 5% over their number."""
-    tests = [Check(str(p), p, 0.0, {}) for p in (0.0125, 0.0126, 0.05, 0.9)]
+    tests = [OrderTest(str(p), p, 0.0, {}) for p in (0.0125, 0.0126, 0.05, 0.9)]
     assert Checks(9, 9, tuple(tests)).warned == ("0.0125",)
     assert Checks(9, 9, tuple(tests[:1])).level == 0.05
     checks = check_history(STEADY, season=52)

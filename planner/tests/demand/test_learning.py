@@ -19,8 +19,8 @@ from scipy import ndimage, special, stats
 from crnplan.chances import Floats
 from crnplan.demand import grid, learning
 from crnplan.demand.borrowing import law_of, weighed_sizes
-from crnplan.demand.grid import Cells, chunks_of, marginal
-from crnplan.demand.learning import Learned, Prior, learn
+from crnplan.demand.grid import CellLikelihoods, chunks_of, marginal
+from crnplan.demand.learning import GridPrior, Prior, learn
 from crnplan.demand.sample import Sample
 from crnplan.errors import Refused, RefusedFaults
 from planner.tests.demand.made import (
@@ -73,7 +73,7 @@ def test_histories_in_groups(way: str) -> None:
     assert cells.groups.tolist() == [0, 1, 1, 2, 2]
     expected, chances = np.zeros(prior.shape), cells.marginal(prior)
     for at, place in enumerate((3, 0, 2, 1, 4)):
-        (alone,) = Cells.of([samples[place]]).marginal(prior)
+        (alone,) = CellLikelihoods.of([samples[place]]).marginal(prior)
         assert chances[at] == pytest.approx(alone)
         expected += np.outer(cells.shares[cells.groups[at]], cells.sizes[at]) / alone
     found = getattr(grid.expected_of, way)(*cells, prior)
@@ -260,7 +260,7 @@ def test_units_and_points() -> None:
     """Units are whole, none 0. Points are even in the logit of the share and the logarithm of the mean."""
     chances = np.zeros(grid.FLAT.shape)
     chances[3, 5] = 1.0
-    its = Learned.of(chances, 1, 1, 0.1234567)
+    its = GridPrior.of(chances, 1, 1, 0.1234567)
     assert its.units.min() == 1 and its.units.max() == 2**40 and its.gain == 0.123457
     assert its.chances.sum() == pytest.approx(1)
     logits = special.logit(grid.SHARES).ravel()

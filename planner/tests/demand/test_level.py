@@ -11,7 +11,7 @@ from crnplan.demand.level import (
     FIRST,
     LEAST_FACTOR,
     MOST_FACTOR,
-    Moves,
+    BlockSums,
     factor_of,
     smoothed,
     weight_of,
@@ -35,7 +35,7 @@ def test_smoothing_by_hand() -> None:
 def test_moves_by_hand() -> None:
     """Blocks begin 4, 8 and 12 periods before the end, with 9, 5 and 1 periods at the new level before them. The record
     has a mean of 15 and a variance of 25, so the item weighs 9 / 10."""
-    moves = Moves.of(JUMP)
+    moves = BlockSums.of(JUMP)
     for place, known in enumerate((9, 5, 1)):
         before = (130 + 20 * known) / (FIRST + known)
         smooth, came = reached(known) / before - 1, 20 / before - 1
@@ -46,16 +46,16 @@ def test_moves_by_hand() -> None:
 
 def test_records_that_say_nothing() -> None:
     """A short record has no blocks, nor has one without demand; a block without demand before it counts nothing."""
-    assert not len(Moves.of(JUMP[1:]).squares)
-    assert not len(Moves.of([0] * 40).squares)
-    late = Moves.of([0] * 22 + [5] * 4)
+    assert not len(BlockSums.of(JUMP[1:]).squares)
+    assert not len(BlockSums.of([0] * 40).squares)
+    late = BlockSums.of([0] * 22 + [5] * 4)
     assert late.products.tolist() == late.squares.tolist() == [0, 0, 0]
     assert weight_of([late] * LEAST_ITEMS) == 0
 
 
-def of_slopes(slopes: list[float]) -> list[Moves]:
+def of_slopes(slopes: list[float]) -> list[BlockSums]:
     """Returns items whose blocks have these slopes, and are as large."""
-    return [Moves(np.array(slopes), np.ones(len(slopes)))] * LEAST_ITEMS
+    return [BlockSums(np.array(slopes), np.ones(len(slopes)))] * LEAST_ITEMS
 
 
 @pytest.mark.parametrize("slopes", [[0.5, 0.7, 0.6, 0.4], [0.9, 0.1, 0.4, -0.1]])
@@ -76,19 +76,19 @@ def test_ends_of_a_weight() -> None:
     assert weight_of(steep) == 1
     assert weight_of(steep[1:]) == 0
     assert weight_of(of_slopes([-0.5, -0.6, -0.4])) == 0
-    short = Moves(np.array([0.5]), np.ones(1))
+    short = BlockSums(np.array([0.5]), np.ones(1))
     sums = of_slopes([0.5, 0.5, 0.5])
     assert weight_of([*sums, short]) == pytest.approx(0.5)
 
 
-def planted(level: float, seed: int) -> list[Moves]:
+def planted(level: float, seed: int) -> list[BlockSums]:
     """Returns items of 104 periods whose level is so many times as high from some period of their second half on."""
     random = np.random.default_rng(seed)
-    items = list[Moves]()
+    items = list[BlockSums]()
     for _ in range(20):
         means = np.full(104, random.lognormal(2, 0.5))
         means[random.integers(40, 90) :] *= level
-        items.append(Moves.of(random.poisson(means).tolist()))
+        items.append(BlockSums.of(random.poisson(means).tolist()))
     return items
 
 
@@ -101,10 +101,10 @@ def test_planted_levels() -> None:
 
 def test_jump_in_common() -> None:
     """If all items jump at once, all that says so is the few blocks after it."""
-    random, items = np.random.default_rng(3), list[Moves]()
+    random, items = np.random.default_rng(3), list[BlockSums]()
     for mean in random.lognormal(2, 0.5, 20):
         means = np.repeat([mean, 2 * mean], 52)
-        items.append(Moves.of(random.poisson(means).tolist()))
+        items.append(BlockSums.of(random.poisson(means).tolist()))
     assert weight_of(items) > 0.7
 
 

@@ -10,10 +10,10 @@ from typing import Any
 import pytest
 
 import crnplan as crn
-from crnplan.desk.kept import LAST_TEST, PLANS, Begun, Override
+from crnplan.desk.kept import LAST_TEST, PLANS, Begun, DeskOverride
 from crnplan.desk.safety import WHOLE_PAGE
 from crnplan.desk.work import STOPPED, TESTING
-from crnplan.read.overrides import SET_LEVELS, Override as Stated
+from crnplan.read.overrides import SET_LEVELS, DeskOverride as Stated
 from crnplan.read.overriding import read_overrides
 from crnplan.read.items import Reading
 from crnplan.read.told import made_from
@@ -269,7 +269,7 @@ def test_override_is_ordered_by_once_planned_again(
     for name in "AB":
         sent = {"item": name, "way": "end", "reason": "over"}
         assert buyer.post("/item/override", sent).status_code == 303
-    assert buyer.desk.state.overrides["A"] == Override("A", reason="over")
+    assert buyer.desk.state.overrides["A"] == DeskOverride("A", reason="over")
     assert "What you have set" not in page_of(buyer, tmp_path).tables
     assert "as the plan says" in item_page_of(buyer, tmp_path, item="A").words
     plan(buyer, way="again")
@@ -295,7 +295,7 @@ def test_hostile_names(planner: Planner, tmp_path: Path, name: str) -> None:
 def test_item_that_left_the_plan_can_be_ended(planner: Planner, tmp_path: Path) -> None:
     add_made_plan(planner.front, 12)
     with planner.desk.changing() as state:
-        state.overrides["gone"] = Override("gone", 1, 2, reason="why")
+        state.overrides["gone"] = DeskOverride("gone", 1, 2, reason="why")
     page = item_page_of(planner, tmp_path, item="gone")
     assert "there is no item" in page.words
     sent = {"item": "gone", "way": "end", "reason": "sold"}
@@ -350,7 +350,7 @@ def test_what_is_set_is_read_whatever_the_files_are_like(
     """The tables that the desk writes are read by the words for the files of its planner."""
     planner.desk.keep_words(words)
     with planner.desk.changing() as state:
-        state.overrides["Größe; 1"] = Override("Größe; 1", 7, 33, reason="größer")
+        state.overrides["Größe; 1"] = DeskOverride("Größe; 1", 7, 33, reason="größer")
     table = planner.desk.overrides_table()
     stated, _ = read_overrides(table, made_from(Reading, planner.desk.tree))
     assert stated == {"Größe; 1": Stated(SET_LEVELS, 7, 33, "größer")}

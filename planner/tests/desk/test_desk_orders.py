@@ -24,7 +24,7 @@ from werkzeug.test import TestResponse
 
 import crnplan as crn
 from crnplan.desk import kept, orders as module
-from crnplan.read.bounds import Bounds
+from crnplan.read.bounds import OrderBounds
 from planner.tests.conftest import Command
 from planner.tests.desk.conftest import MADE_PLAN, Planner, add_made_plan
 from planner.tests.show import made_catalogue
@@ -44,7 +44,7 @@ def supplied(source: random.Random, name: str) -> made_catalogue.Pair:
     supplier = SUPPLIERS[len(name) % 2 if name in NAMES else place]
     least = Fraction(LEAST) if supplier == TAG else None
     more = {"supplier": supplier, "supplier_min": least, "price": PRICE}
-    return replace(item, bounds=Bounds(PACK), **more), answer
+    return replace(item, bounds=OrderBounds(PACK), **more), answer
 
 
 class Form(NamedTuple):

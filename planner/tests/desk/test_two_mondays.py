@@ -17,7 +17,7 @@ import pytest
 import crnplan as crn
 from crnplan.desk import kept, orders as module
 from crnplan.desk.front import Front
-from crnplan.read.bounds import Bounds
+from crnplan.read.bounds import OrderBounds
 from planner.tests.conftest import Command
 from planner.tests.desk.conftest import Planner, add_made_plan, file_of
 from planner.tests.desk.test_desk_orders import Shown
@@ -44,7 +44,7 @@ def packed(source: random.Random, name: str) -> made_catalogue.Pair:
     """Returns a made item of one of four suppliers, with its pack."""
     item, answer = made_pair(source, name)
     supplier = f"Supplier {int(name[1:]) % 4}"
-    return replace(item, bounds=Bounds(pack_of(name)), supplier=supplier), answer
+    return replace(item, bounds=OrderBounds(pack_of(name)), supplier=supplier), answer
 
 
 @dataclass(frozen=True)

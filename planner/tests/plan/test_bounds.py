@@ -15,7 +15,7 @@ from crnplan.curve.candidates import PRICES, candidates_of
 from crnplan.law import Law
 from crnplan.plan.aims import FILLS, Aims, Tried
 from crnplan.plan import checked_run, choice
-from crnplan.plan.answer import BOUNDED, CHEAPER, RUN, SAME, Answer, Run
+from crnplan.plan.answer import BOUNDED, CHEAPER, RUN, SAME, Answer, CheckRun
 from crnplan.plan.bounds import MOST_COVERAGE, feasible_of
 from crnplan.plan.catalogue import planned_folder
 from crnplan.plan.changes import masters_of
@@ -23,7 +23,7 @@ from crnplan.plan.item import Depth
 from crnplan.plan.one import plan_one
 from crnplan.plan.how import Settings
 from crnplan.plan.question import Question, question_of
-from crnplan.read.bounds import Bounds
+from crnplan.read.bounds import OrderBounds
 from crnplan.read.item import Item
 from crnplan.remarks import Value
 from crnplan.theory.feasible import Feasible
@@ -43,7 +43,9 @@ DEAR = {"levels": (0, 90)}
 
 
 def asked(
-    bounds: Bounds = Bounds(), settings: Mapping[str, Any] = {}, **changed: Any
+    bounds: OrderBounds = OrderBounds(),
+    settings: Mapping[str, Any] = {},
+    **changed: Any,
 ) -> Question:
     facts: dict[str, Any] = {
         "name": "A",
@@ -81,10 +83,10 @@ def figures_of(question: Question, levels: tuple[int, int]) -> tuple[float, floa
     return float(cost) / float(question.scale), float(fill)
 
 
-def bounds_of(**amounts: Any) -> Bounds:
+def bounds_of(**amounts: Any) -> OrderBounds:
     """Returns bounds whose coverages are given as numbers."""
     whole = "pack", "order_min", "s_min"
-    return Bounds(
+    return OrderBounds(
         **{name: it if name in whole else Fraction(it) for name, it in amounts.items()}
     )
 
@@ -105,20 +107,20 @@ def test_bounds_where_masters_state_none(
 ) -> None:
     """Masters come first, then settings. Else S - s covers two years, and s is at least 1 for a wanted fill rate."""
     plain, wanted = asked().item, asked(**FILL).item
-    own = replace(plain, bounds=Bounds(4, 9, 0, Fraction(3), Fraction(2)))
+    own = replace(plain, bounds=OrderBounds(4, 9, 0, Fraction(3), Fraction(2)))
     usual, stated = Settings(every=every), Settings(
         every=every, order_min=7, max_coverage=30, s_min=2
     )
     years = None if coverage is None else Fraction(coverage)
-    assert usual.bounds_of(plain) == Bounds(s_min=0, order_coverage=years)
-    assert usual.bounds_of(wanted) == Bounds(s_min=1, order_coverage=years)
+    assert usual.bounds_of(plain) == OrderBounds(s_min=0, order_coverage=years)
+    assert usual.bounds_of(wanted) == OrderBounds(s_min=1, order_coverage=years)
     assert (
         usual.bounds_of(
-            replace(plain, bounds=Bounds(shelf_life=Fraction(9)))
+            replace(plain, bounds=OrderBounds(shelf_life=Fraction(9)))
         ).order_coverage
         == years
     )
-    assert stated.bounds_of(wanted) == Bounds(1, 7, 2, Fraction(30))
+    assert stated.bounds_of(wanted) == OrderBounds(1, 7, 2, Fraction(30))
     assert stated.bounds_of(own) == usual.bounds_of(own) == own.bounds
 
 
@@ -154,7 +156,8 @@ def test_a_smallest_order_beyond_what_s_may_cover(program: Path) -> None:
     for smallest in (12, 20, 30):
         _, facts = answer_of(
             asked(
-                Bounds(order_min=smallest, coverage=Fraction(3)), setup=Fraction(900)
+                OrderBounds(order_min=smallest, coverage=Fraction(3)),
+                setup=Fraction(900),
             ),
             program,
         )
@@ -173,7 +176,7 @@ def test_bounds_that_leave_no_policy_for_a_fill(program: Path) -> None:
         1.0, (Tried(20, 20, tuple(1 - fill for fill in FILLS)),) * 2
     )  # which correct nothing
     question, free = asked(
-        Bounds(coverage=Fraction(3)), {"aims": aims}, **FILL | DEAR
+        OrderBounds(coverage=Fraction(3)), {"aims": aims}, **FILL | DEAR
     ), asked(**FILL | DEAR)
     answer, remarks = answer_of(question, program)
     assert answer.correction
@@ -269,7 +272,7 @@ def test_today_stays_if_it_keeps_what_is_promised(
     """Today's policy costs less and meets more by the law of the item, but stays only if it keeps the promise too."""
     free = plan_one(asked(**FILL), str(program)).chosen
     question = asked(
-        Bounds(order_min=30),
+        OrderBounds(order_min=30),
         {"confidence": 0.5},
         **FILL | {"levels": free.levels, "setup": Fraction(1)},
     )
@@ -303,7 +306,7 @@ def test_today_stays_beside_what_a_run_shows_as_worse(
     assert plain.chosen.fill < plain.today.fill
     known = checked_run.run_of
 
-    def dearer(*asked: Any) -> Run:
+    def dearer(*asked: Any) -> CheckRun:
         run = known(*asked)
         return replace(run, saving=-min(run.saving or 0, 7))
 
@@ -319,7 +322,9 @@ def test_today_stays_beside_what_a_run_shows_as_worse(
 def test_what_costs_more_and_serves_more_is_chosen(program: Path) -> None:
     """A smallest order that costs more and meets more than today's policy is a choice, and so is one that costs less."""
     for levels in ((1, 3), (9, 30)):
-        answer, remarks = answer_of(asked(Bounds(order_min=12), levels=levels), program)
+        answer, remarks = answer_of(
+            asked(OrderBounds(order_min=12), levels=levels), program
+        )
         assert answer.chosen.levels != levels
         assert "today stays" not in remarks
 
@@ -340,7 +345,7 @@ def test_no_order_waits_for_a_customer(program: Path) -> None:
     answer, remarks = answer_of(asked(**wanted), program)
     assert answer.chosen.point == 1
     assert not {"s of 0", "bound of s_min"} & remarks.keys()
-    answer, remarks = answer_of(asked(Bounds(s_min=0), **wanted), program)
+    answer, remarks = answer_of(asked(OrderBounds(s_min=0), **wanted), program)
     assert answer.chosen.point == 0
     assert "s of 0" in remarks
 
@@ -348,7 +353,7 @@ def test_no_order_waits_for_a_customer(program: Path) -> None:
 def test_an_earlier_policy_out_of_bounds_does_not_stay(program: Path) -> None:
     """A policy of an earlier plan stays if a change gains little, but not if it is out of bounds."""
     settings = alone(fit="empirical", least_gain=0.9)
-    for bounds, stays in ((Bounds(), True), (Bounds(order_min=9), False)):
+    for bounds, stays in ((OrderBounds(), True), (OrderBounds(order_min=9), False)):
         question = question_of(asked(bounds).item, settings, None, (3, 9))
         assert (plan_one(question, str(program)).undamped is not None) == stays
 
@@ -356,7 +361,7 @@ def test_an_earlier_policy_out_of_bounds_does_not_stay(program: Path) -> None:
 def test_deeper_looks_respect_the_bounds(program: Path) -> None:
     """All suggested policies but today's are within the bounds, and so is the best of each case, and the decision without
     the largest periods."""
-    question = asked(Bounds(3, 20, 3, Fraction(30)), counts=(*SEEN, 40), **DEAR)
+    question = asked(OrderBounds(3, 20, 3, Fraction(30)), counts=(*SEEN, 40), **DEAR)
     depth = Depth(question, plan_one(question, str(program)), str(program), laws=4)
     feasible = question.theory.feasible
     own = {(policy.s, policy.S) for policy in depth.policies} - {(0, 90)}
@@ -403,7 +408,8 @@ def test_bounds_of_a_catalogue(crnplan: Command, tmp_path: Path, program: Path) 
 def test_other_bounds_are_a_reason() -> None:
     """Planned again after an earlier plan, an item with other bounds has another master."""
     old, new = (
-        asked(bounds).item for bounds in (Bounds(), Bounds(4, coverage=Fraction(9, 2)))
+        asked(bounds).item
+        for bounds in (OrderBounds(), OrderBounds(4, coverage=Fraction(9, 2)))
     )
     (remark,) = masters_of(old, new, (3, 9))
     assert sentence(remark) == "pack 1 to 4, coverage none to 4.5"

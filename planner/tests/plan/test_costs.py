@@ -20,7 +20,7 @@ from crnplan.plan.how import NONE, Settings
 from crnplan.plan.one import or_fault
 from crnplan.plan.question import question_of
 from crnplan.read.item import Item
-from crnplan.read.bounds import Bounds
+from crnplan.read.bounds import OrderBounds
 from crnplan.remarks import Remark
 from crnplan.store.trees import value_of
 from planner.studies import costs
@@ -60,8 +60,8 @@ def costs_of(
     return costs
 
 
-@pytest.mark.parametrize("bounds", [Bounds(), Bounds(order_min=20)])
-def test_costs_in_quarters_by_a_loop(bounds: Bounds) -> None:
+@pytest.mark.parametrize("bounds", [OrderBounds(), OrderBounds(order_min=20)])
+def test_costs_in_quarters_by_a_loop(bounds: OrderBounds) -> None:
     """Each quarter costs what the best policy by the others costs in it, in the second pass through the record. What was
     promised is what theory says of these policies, which a bound of the item makes dearer.
     """

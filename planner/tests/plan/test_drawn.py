@@ -7,7 +7,7 @@ import random
 import numpy as np
 import pytest
 
-from crnplan.plan.drawn import MOST, MOST_TAKEN, Draws, Estimate, estimated
+from crnplan.plan.drawn import MOST, MOST_TAKEN, Draws, EstimatedSum, estimated
 
 
 def drawn_of(sizes: dict[str, float]) -> Draws:
@@ -72,10 +72,10 @@ def test_nothing_is_left_or_too_little_is_drawn() -> None:
     assert estimated(one, one, one, 0.0) == (0, 0)
     assert estimated(one, one, one, 5.0) == (0, math.inf)
     assert estimated(np.zeros(3), np.zeros(3), np.ones(3), 5.0) == (0, math.inf)
-    assert Estimate(20.0, 2.0).is_known()
-    assert not Estimate(20.0, 2.1).is_known()
-    assert Estimate(0.001, 0.0004).is_known(0.0005)
-    assert Estimate(-20.0, 2.0).plus(-5.0) == (-25, 2)
+    assert EstimatedSum(20.0, 2.0).is_known()
+    assert not EstimatedSum(20.0, 2.1).is_known()
+    assert EstimatedSum(0.001, 0.0004).is_known(0.0005)
+    assert EstimatedSum(-20.0, 2.0).plus(-5.0) == (-25, 2)
 
 
 def test_estimates_lie_where_they_say() -> None:

@@ -9,7 +9,7 @@ from typing import Any
 import numpy as np
 import pytest
 
-from crnplan.demand.learning import CLASS, Learned, Prior, learn
+from crnplan.demand.learning import CLASS, GridPrior, Prior, learn
 from crnplan.money import Currency
 from crnplan.show.item_page import ItemWords, item_page, item_summary
 from crnplan.plan import one
@@ -113,7 +113,7 @@ def test_a_new_item_of_a_class(program: Path) -> None:
         np.full((24, 192), 1.0),
         np.repeat(np.linspace(0, 1, 24)[:, None], 192, axis=1),
     ]
-    whole, own = (Learned.of(its / its.sum(), 30, 30, 0.0) for its in chances)
+    whole, own = (GridPrior.of(its / its.sum(), 30, 30, 0.0) for its in chances)
     prior = Prior(CLASS, items=30, whole=whole, classes={"A": own})
     for group, name in (("A", "A"), ("B", "all")):
         answer = plan_asked(

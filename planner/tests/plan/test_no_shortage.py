@@ -17,7 +17,7 @@ from crnplan.plan.choice import choice_of
 from crnplan.plan.one import plan_one
 from crnplan.plan.question import Question, question_of
 from crnplan.plan.what_ifs import cases_of
-from crnplan.read.bounds import Bounds
+from crnplan.read.bounds import OrderBounds
 from crnplan.remarks import Remark
 from crnplan.words import sentence
 from planner.tests.plan.items import SHORT, alone, item_of, tables_of
@@ -95,7 +95,7 @@ def test_more_service_by_periods(program: Path) -> None:
 
 def test_today_stays_if_it_has_fewer_shortages(program: Path) -> None:
     """It is no dearer than the best within its bounds, and has fewer shortages, though it meets less at once."""
-    question = asked(**LUMPY, bounds=Bounds(order_min=15), levels=(2, 7))
+    question = asked(**LUMPY, bounds=OrderBounds(order_min=15), levels=(2, 7))
     choice = choice_of(question, True)
     assert choice.levels == (2, 7) and choice.worse
     today, worse = question.figures((2, 7)), question.figures(choice.worse)
@@ -110,7 +110,7 @@ def test_today_stays_if_it_has_fewer_shortages(program: Path) -> None:
 def test_bounds_that_leave_no_policy(program: Path) -> None:
     """The nearest policy is that with the fewest shortages, and it is said in these words."""
     words = {"no_shortage": Fraction(999, 1000), "setup": Fraction(1), "levels": (1, 3)}
-    answer = answered(program, bounds=Bounds(coverage=Fraction(5)), **words)
+    answer = answered(program, bounds=OrderBounds(coverage=Fraction(5)), **words)
     assert answer.verdict == BOUNDED
     (said,) = [sentence(it) for it in answer.remarks if it.code == BOUNDED]
     kept = f"{answer.chosen.no_shortage:.2%}"

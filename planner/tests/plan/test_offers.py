@@ -17,7 +17,7 @@ from crnplan.plan.offers import Asked, ByPrice, offer_of, past_of
 from crnplan.plan.prices import REST, Price, Prices
 from crnplan.plan.question import NoPolicy, Question, question_of
 from crnplan.plan.together import fill_with
-from crnplan.read.bounds import Bounds
+from crnplan.read.bounds import OrderBounds
 from crnplan.read.item import Item
 from planner.tests.plan.items import item_of
 
@@ -106,7 +106,9 @@ def test_offers_by_brute_force() -> None:
 def test_bounds_that_leave_few_policies() -> None:
     """If no policy has the least fill rate, the item has the one that meets most, by its plan and by its offer; there is
     no plan if no pair is within the bounds."""
-    item = dataclasses.replace(SMALL[1], bounds=Bounds(s_min=1, coverage=Fraction(3)))
+    item = dataclasses.replace(
+        SMALL[1], bounds=OrderBounds(s_min=1, coverage=Fraction(3))
+    )
     question = question_of(item, priced(0.01, at_least=0.98))
     best, is_bounded = best_of(question)
     fullest = question.theory.fullest()
@@ -120,7 +122,7 @@ def test_bounds_that_leave_few_policies() -> None:
     assert offer.unmet == pytest.approx([(1 - figures.fill) * asked_for])
     assert offer.held == pytest.approx([held]) and offer.alone[1] == offer.held[0]
     assert offer.alone[0] < offer.alone[1]
-    none = dataclasses.replace(item, bounds=Bounds(s_min=MOST_ITEMS, order_min=9))
+    none = dataclasses.replace(item, bounds=OrderBounds(s_min=MOST_ITEMS, order_min=9))
     with pytest.raises(NoPolicy):
         best_of(question_of(none, priced(1.0)))
 
@@ -160,7 +162,7 @@ KINDS: tuple[dict[str, Any], ...] = (
     {},
     {"leads": (1, 3, 2)},
     {"leads": (1, 3), "returns": (1, 0, 0) * 20},
-    {"bounds": Bounds(pack=6, order_min=20, coverage=Fraction(12))},
+    {"bounds": OrderBounds(pack=6, order_min=20, coverage=Fraction(12))},
     {"counts": tuple(item_of(1).counts[place] * 991 for place in range(60))},
 )
 

@@ -283,7 +283,7 @@ def test_a_run_without_rare_events_is_no_fault(
     program: Path, monkeypatch: pytest.MonkeyPatch
 ) -> None:
     """A run that meets none of a few dear shortages is far from theory by its own spread, and no fault."""
-    seen, honest = list[Any](), checked_run.Sample
+    seen, honest = list[Any](), checked_run.RunSample
     monkeypatch.setattr(
         checked_run, "Sample", lambda *words: seen.append(words) or honest(*words)
     )

@@ -18,7 +18,7 @@ from crnplan.plan.item import Depth
 from crnplan.plan.offers import Asked, past_of
 from crnplan.plan.packs import remarks_of_packs
 from crnplan.policies import Policy
-from crnplan.read.bounds import Bounds
+from crnplan.read.bounds import OrderBounds
 from crnplan.show.item_page import ItemWords, item_page
 from crnplan.words import sentence
 from planner.tests.plan.items import alone
@@ -35,7 +35,7 @@ LARGE: dict[str, Any] = {
     "holding": Fraction(1, 4_000),
     "backlog": Fraction(19, 4_000),
 }
-PACK = Bounds(pack=100)
+PACK = OrderBounds(pack=100)
 
 
 def test_a_pack_leaves_the_levels() -> None:
@@ -56,7 +56,7 @@ def test_a_pack_leaves_the_levels() -> None:
 def test_the_past_is_ordered_in_packs() -> None:
     """With (2, 4) and one item a week, each third week orders 3. Rounded up to 10, one order in ten weeks is enough."""
     for pack, sizes, orders in ((1, {3}, 14), (10, {10}, 4)):
-        item = asked(Bounds(pack=pack), counts=(1,) * 45, leads=(1,)).item
+        item = asked(OrderBounds(pack=pack), counts=(1,) * 45, leads=(1,)).item
         happened = Happened(item, asked().lead, 1, 5)
         ordered = [it.ordered for it in happened.periods([(2, 4)] * 45)]
         assert {*ordered} - {0} <= sizes
@@ -67,7 +67,7 @@ def test_trials_of_prices_order_in_packs() -> None:
     """What a pack brings beyond S leaves less unmet. Something is, as it would not be if s were a pack."""
     unmet = []
     settings = alone(fit="empirical", together={"": 0.9})
-    for bounds in (Bounds(), PACK):
+    for bounds in (OrderBounds(), PACK):
         facts = FILL | {"price": Fraction(3), "bounds": bounds}
         item = asked(counts=SLOW, **facts).item
         offer = past_of(item, settings, Prior(NONE), {"": Asked((0.05, 1.0))})
@@ -86,7 +86,7 @@ def test_what_rounding_costs(
 ) -> None:
     """It is what a Markov chain says, but for the error of a run. It stands in the answer, and the page says that the stock
     of the run has no packs."""
-    question = asked(Bounds(pack=pack), **changed)
+    question = asked(OrderBounds(pack=pack), **changed)
     answer, remarks = answer_of(question, program)
     boxes = pack // question.item.box
     levels = (level // question.item.box for level in answer.chosen.levels)
@@ -112,7 +112,7 @@ def test_what_rounding_costs(
 
 def test_what_is_said_of_packs() -> None:
     """It is said of each item whose orders are no whole packs, in boxes as in items."""
-    question = asked(Bounds(pack=7))
+    question = asked(OrderBounds(pack=7))
     (remark,) = remarks_of_packs(question, (3, 9))
     cost = remark.facts["cost"]
     assert sentence(remark) == (
@@ -120,5 +120,5 @@ def test_what_is_said_of_packs() -> None:
         f"crnsim; rounding changes the cost by {cost:+.2f} a period, by runs of 20,000 periods"
     )
     for pack, times in ((1, 1), (6, 6), (2, 6)):
-        item = asked(Bounds(pack=pack), counts=tuple(times * it for it in SLOW))
+        item = asked(OrderBounds(pack=pack), counts=tuple(times * it for it in SLOW))
         assert not [*remarks_of_packs(item, (30, 90))]

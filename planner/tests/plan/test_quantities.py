@@ -15,7 +15,7 @@ import crnplan as crn
 from crnplan.errors import RefusedFaults
 from crnplan.plan.answer import Answer
 from crnplan.plan.standing import Standing
-from crnplan.read.bounds import Bounds
+from crnplan.read.bounds import OrderBounds
 from crnplan.read.item import PHASE_OUT, STOPPED
 from crnplan.read.quantities import Quantity
 from crnplan.remarks import Remark
@@ -93,7 +93,7 @@ def test_what_is_ordered_of_a_supplier() -> None:
 def folder(tmp_path_factory: pytest.TempPathFactory) -> Path:
     """Returns the folder of a plan of nut, of other made items, and of bolt, which comes in packs of 24."""
     item, answer = made_pair(random.Random(4), "bolt")
-    bolt = replace(item, bounds=Bounds(24), price=Fraction(2), supplier="Bosch")
+    bolt = replace(item, bounds=OrderBounds(24), price=Fraction(2), supplier="Bosch")
     path = tmp_path_factory.mktemp("asked") / "plan"
     return made_folder(path, 40, ("nut",), has_curve=False, change=(bolt, answer))
 

@@ -12,7 +12,7 @@ import pandas as pd
 import pytest
 
 import crnplan as crn
-from crnplan.crnsim.periods import Past, periods_of
+from crnplan.crnsim.periods import Realization, periods_of
 from crnplan.plan.answer import THEORY
 from crnplan.plan.backtest.methods import Walk, Walked
 from crnplan.plan.backtest.smoothing import smoothed_levels
@@ -21,7 +21,7 @@ from crnplan.plan.correction import in_blocks
 from crnplan.plan.one import plan_one
 from crnplan.plan.question import Levels, Question, question_of
 from crnplan.demand.learning import Prior
-from crnplan.read.bounds import Bounds
+from crnplan.read.bounds import OrderBounds
 from crnplan.words import sentence
 from planner.tests.plan.items import SHORT, alone, item_of, tables_of
 from planner.tests.plan.test_seasons import answered as in_season
@@ -94,7 +94,7 @@ def test_periods_of_a_buyer() -> None:
     source = np.random.default_rng(1)
     demands, leads = source.poisson(2, 40).tolist(), source.integers(1, 4, 40).tolist()
     for first in range(3):
-        past = Past(demands, [0] * 40, leads, 3, first)
+        past = Realization(demands, [0] * 40, leads, 3, first)
         found = periods_of(past, [(6, 14)] * 40, 14)
         stocks, met, ordered = by_hand((6, 14), demands, leads, 3, first)
         assert [it.stock for it in found] == stocks
@@ -150,7 +150,7 @@ def test_the_past_has_the_same_reviews() -> None:
 
 def made(**columns: Any) -> tuple[pd.DataFrame, pd.DataFrame]:
     """Returns demand and masters: two items are reviewed once in four weeks, the third one once a week."""
-    facts: tuple[dict[str, Any], ...] = (FILL, {"bounds": Bounds(pack=6)}, FILL)
+    facts: tuple[dict[str, Any], ...] = (FILL, {"bounds": OrderBounds(pack=6)}, FILL)
     sales, masters = tables_of(
         [item_of(place, **its) for place, its in enumerate(facts)]
     )

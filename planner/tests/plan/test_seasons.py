@@ -23,7 +23,7 @@ from crnplan.plan.correction import trial_of
 from crnplan.demand.learning import Prior
 from crnplan.plan.item import depth_of
 from crnplan.plan.one import plan_asked, plan_one
-from crnplan.plan.yearly import Planned, Year
+from crnplan.plan.yearly import PlannedMonth, Year
 from crnplan.plan.how import NONE, without_season
 from crnplan.plan.question import Question, question_of
 from crnplan.plan.seasons import (
@@ -386,7 +386,7 @@ def test_verdict_of_a_year_by_runs(program: Path) -> None:
     by_run = dataclasses.replace(answer, source=RUN)
     for low, verdict in ((0.1, CHEAPER), (-0.1, UNDECIDED)):
         run = dataclasses.replace(answer.run, low=low, high=9.0)
-        year = Year([Planned(question, dataclasses.replace(by_run, run=run))])
+        year = Year([PlannedMonth(question, dataclasses.replace(by_run, run=run))])
         assert year.verdict(year.answers[0]) == verdict
 
 

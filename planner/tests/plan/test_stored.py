@@ -22,7 +22,7 @@ from crnplan.plan.totals import Totals
 from crnplan.plan.question import finest
 from crnplan.read.item import Item
 from crnplan.remarks import Remark
-from crnplan.store.stored import Columns, Damaged, Store, sealed
+from crnplan.store.stored import StoredColumns, Damaged, Store, sealed
 
 FLOATS = some.floats(allow_nan=False)
 WHOLE = some.integers(-(2**80), 2**80)
@@ -45,7 +45,7 @@ for kind, values in (
 @given(some.from_type(Answer) | some.from_type(Item))
 def test_columns_give_back_what_they_are_given(value: Answer | Item) -> None:
     """Each field comes back as it was, of any size, through SQLite's own columns."""
-    columns = Columns(type(value))
+    columns = StoredColumns(type(value))
     base = sqlite3.connect(":memory:")
     base.execute(
         f"CREATE TABLE kept ({', '.join(f'c{place}' for place in range(len(columns.names)))})"

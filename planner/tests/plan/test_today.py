@@ -17,8 +17,8 @@ from crnplan.law import Law
 from crnplan.show.today_tables import OrdersToday
 from crnplan.plan.answer import Laws
 from crnplan.plan.standing import Standing
-from crnplan.plan.today import Group, Lying, Today, by_urgency, minimums_of
-from crnplan.read.bounds import Bounds
+from crnplan.plan.today import OrderGroup, Lying, Today, by_urgency, minimums_of
+from crnplan.read.bounds import OrderBounds
 from crnplan.read.items import Reading
 from crnplan.read.quiet import is_dead, quiet_periods
 from crnplan.read.stock import Arrival, OnHand
@@ -50,7 +50,7 @@ def standing_of(
 ) -> Standing:
     """Returns an item with a policy and laws on a Friday."""
     item, answer = made_pair(random.Random(1), facts.pop("name", "A"))
-    item = replace(item, bounds=Bounds(pack), **{"price": Fraction(3), **facts})
+    item = replace(item, bounds=OrderBounds(pack), **{"price": Fraction(3), **facts})
     answer = replace(answer, laws=laws, chosen=replace(answer.chosen, point=s, level=S))
     return Standing(
         item, answer, OnHand(Fraction(stock), Fraction(owed)), arrivals, FRIDAY, every
@@ -187,7 +187,7 @@ def offered() -> dict[str, Standing]:
 
 def test_additions_for_a_supplier(offered: dict[str, Standing]) -> None:
     """What is nearest above s in weeks is added first, by its own order in packs, until the least value is met."""
-    group = Group("Bosch", [*offered.values()], [], Fraction(83))
+    group = OrderGroup("Bosch", [*offered.values()], [], Fraction(83))
     added = [
         (it.standing.item.name, it.standing.placed, it.total)
         for it in group.additions()

@@ -15,7 +15,7 @@ import pytest
 
 from crnplan.catalogues import Catalogue
 from crnplan.cli import catalogues
-from crnplan.read.bounds import Bounds
+from crnplan.read.bounds import OrderBounds
 from crnplan.read.catalogue_reading import READ
 from crnplan.read.item import Item
 from planner.tests.conftest import Answer, Command
@@ -156,7 +156,7 @@ def test_bounds_of_masters(
     whole, spans = expected[:3], expected[3:]
     bounds = [None if value == "" else value for value in whole]
     bounds += [Fraction(span) if span else None for span in spans]
-    assert read.item.bounds == Bounds(*bounds)
+    assert read.item.bounds == OrderBounds(*bounds)
     assert "not used" not in read.answer.errors
 
 

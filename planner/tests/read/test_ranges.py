@@ -18,7 +18,7 @@ from crnplan.store.jobs import Workers
 from crnplan.read import sources
 from crnplan.read.blocks import Sizes
 from crnplan.read.headings import find_columns
-from crnplan.read.filed import Part, read_tables
+from crnplan.read.filed import CataloguePart, read_tables
 from crnplan.read.items import Reading
 from crnplan.read.rows import Rows, rows_of
 from crnplan.read.opening import opened
@@ -134,7 +134,7 @@ def rows_in_ranges(
         assert refused.faults == whole.value.faults
         return [], refused.faults
     parts, careful = [
-        Part({"demand": (sheet, table.pieces(part))}).rows()["demand"]
+        CataloguePart({"demand": (sheet, table.pieces(part))}).rows()["demand"]
         for part in range(PARTS)
     ], rows_of(sheet)
     found = sorted(row for its in parts for row in by_rows(its))

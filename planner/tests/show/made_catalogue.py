@@ -34,7 +34,7 @@ from crnplan.plan.answer import (
     Figures,
     LawFacts,
     Laws,
-    Run,
+    CheckRun,
 )
 from crnplan.plan.catalogue import ANSWERS, TOTALS, Planned, PlannedFolder
 from crnplan.plan.how import Settings
@@ -165,13 +165,17 @@ def keep_made(folder: Folder, planned: PlannedFolder) -> None:
         kept.finish(drawn.items(), {})
 
 
-def made_run(source: random.Random, cost: float, saving: float, error: float) -> Run:
+def made_run(
+    source: random.Random, cost: float, saving: float, error: float
+) -> CheckRun:
     """Returns a run beside theory: the saving is off by its error at most."""
     near = saving + error * source.uniform(-1, 1)
     seen = "0 0 0 0", 1024, 24, 9, Fraction(100), 900, 60, 900
     chosen = 900_000, cost - near
     today = 1_000_000, Fraction(-near), Fraction(error) ** 2, cost, near, error
-    return Run(*seen, *chosen, *today, near - QUANTILE * error, near + QUANTILE * error)
+    return CheckRun(
+        *seen, *chosen, *today, near - QUANTILE * error, near + QUANTILE * error
+    )
 
 
 def made_pair(source: random.Random, name: str) -> Pair:

@@ -12,12 +12,12 @@ import pandas as pd
 import pytest
 
 import crnplan as crn
-from crnplan.show.board import Board, Row
+from crnplan.show.board import Board, ClassRow
 from crnplan.show.catalogue_tables import reasons_of
 from crnplan.drawing.rendering import Money, Unit, rendered
 from crnplan.plan.answer import CHEAPER, DEARER, RUN, SAME, THEORY, Answer
 from crnplan.plan.catalogue import planned_folder
-from crnplan.plan.drawn import Estimate
+from crnplan.plan.drawn import EstimatedSum
 from crnplan.plan.swings import CaseSum, Swings
 from crnplan.read.columns import periods_a_year
 from crnplan.read.item import NEW
@@ -183,16 +183,21 @@ def test_what_would_change_the_answer(large: Path, tmp_path: Path) -> None:
 def test_what_is_not_known_well_enough(tmp_path: Path) -> None:
     """A figure whose standard error is above a tenth of it is not printed, and a line says why. A service is not said if
     no demand is known by which it is measured, and said of what is not met."""
-    near, far = Estimate(100.0, 10.0), Estimate(100.0, 10.1)
-    unmet = Estimate(0.04, 0.003)
-    planned = Estimate(90.0), Estimate(50.0), Estimate(0.0), Estimate(0.125, 0.001)
+    near, far = EstimatedSum(100.0, 10.0), EstimatedSum(100.0, 10.1)
+    unmet = EstimatedSum(0.04, 0.003)
+    planned = (
+        EstimatedSum(90.0),
+        EstimatedSum(50.0),
+        EstimatedSum(0.0),
+        EstimatedSum(0.125, 0.001),
+    )
     cases = [
         CaseSum("", 10, *planned, 0),
-        CaseSum("demand", 12, near, far, far, Estimate(0.04, 0.005), 0),
+        CaseSum("demand", 12, near, far, far, EstimatedSum(0.04, 0.005), 0),
         CaseSum("demand", 8, near, near, near, unmet, 2),
         CaseSum("lead", 8, near, near, near, None, 0),
     ]
-    everything = Row("all", 500, 50.0, (0.9, 0.96), (1.0, 2.0))
+    everything = ClassRow("all", 500, 50.0, (0.9, 0.96), (1.0, 2.0))
     board = Board(
         Money("", 2), 1.0, True, everything, [], [], 1, Swings(cases, 120, 30, 0.82)
     )

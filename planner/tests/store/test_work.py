@@ -20,7 +20,7 @@ from crnplan.errors import Failed
 from crnplan.store.jobs import BATCH
 from crnplan.plan.answer import Correction
 from crnplan.remarks import Remark
-from crnplan.store.stored import Question, Store
+from crnplan.store.stored import NamedDigest, Store
 from crnplan.store.work import Known, Work
 
 NAMES = sorted(f'{place:02} "ä",' for place in range(40))
@@ -35,7 +35,7 @@ class Asking:
     names: Sequence[str] = tuple(NAMES)
     added: int = 0
 
-    def questions(self) -> Iterator[Question]:
+    def questions(self) -> Iterator[NamedDigest]:
         for name in self.names:
             yield name, digest_of(name, self.added)
 

@@ -20,7 +20,7 @@ from crnplan.theory.many_laws import (
 )
 from crnplan.theory.suggestions import (
     FILLS,
-    Chosen,
+    SuggestedPolicies,
     chosen_policies,
     suggestions_of,
 )
@@ -120,7 +120,7 @@ def promises_of(
     laws: Sequence[crn.Law],
     leads: Sequence[crn.Law] = (),
     share: float = 0.8,
-) -> tuple[Promises, Chosen]:
+) -> tuple[Promises, SuggestedPolicies]:
     """Returns what policies promise under a share of laws, and the policies that are suggested by that."""
     theory, _ = theories_of(scenario)
     best, fills = theory.best(), [*FILLS.values()]

@@ -15,7 +15,7 @@ from crnplan.money import Costs
 from crnplan.runs import Scenario
 from crnplan.theory import reviews, run_effects
 from crnplan.theory.lattice import NoTheory, theories_of
-from crnplan.theory.run_effects import Runs, end_effects, start_bias, theory_of
+from crnplan.theory.run_effects import PolicyRuns, end_effects, start_bias, theory_of
 from planner.tests.theory.chain import by_chain, expected
 from planner.tests.theory.scenarios import Weights, scenario_of, table
 
@@ -184,7 +184,7 @@ def test_all_reviews_at_once(
     asked = asked_of(scenario, s, s + gap, initial, periods)
     theory, policy = theory_of(asked), asked.policies[0]
     (gap, _), *_ = theory.gaps_of(s, s + gap)
-    runs = Runs(theory, asked)
+    runs = PolicyRuns(theory, asked)
     at_once = runs.bias(policy, gap)
     runs.sums = None
     assert at_once == pytest.approx(runs.bias(policy, gap), rel=1e-8, abs=1e-7)

@@ -86,7 +86,7 @@ class Spelling:
         return f"{flag} {shlex.quote(value)}" if value else flag
 
 
-class Group(click.Group):
+class CommandGroup(click.Group):
     """A group whose subcommands are imported when they are asked for."""
 
     def list_commands(self, ctx: click.Context) -> list[str]:
@@ -126,7 +126,7 @@ class Group(click.Group):
 
 
 @click.group(
-    cls=Group,
+    cls=CommandGroup,
     context_settings={"help_option_names": ["-h", "--help"], "max_content_width": 100},
     epilog="Example: crnplan plan demand.csv items.csv --out plan",
 )

@@ -20,7 +20,7 @@ from ..toml.documents import places_of
 from .words import command, refuse_words, show
 
 if TYPE_CHECKING:
-    from ..crnsim.report import Row
+    from ..crnsim.report import ReportRow
     from ..decide.verdicts import Decision
 
 # The words about a run, and those about reports, by their names.
@@ -40,7 +40,7 @@ def given_bytes(file: str) -> tuple[str, bytes]:
 
 def decided_reports(
     reports: Sequence[tuple[str, bytes]], asked: dict[str, Any], level: float
-) -> tuple[Sequence[Row], Decision]:
+) -> tuple[Sequence[ReportRow], Decision]:
     """Returns the rows of all reports together, and what they say over the coming periods."""
     from ..decide.long_run import coming_decision
     from ..decide.reports import check_policies, read_reports
@@ -66,7 +66,7 @@ def decided_reports(
 
 def decided_run(
     data: bytes, name: str, asked: dict[str, Any], level: float
-) -> tuple[Sequence[Row], Decision]:
+) -> tuple[Sequence[ReportRow], Decision]:
     """Returns the rows of the run of a scenario, and what they say."""
     from ..decide.long_run import KEYS, coming_decision
 

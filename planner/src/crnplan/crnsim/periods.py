@@ -15,7 +15,7 @@ from ..policies import Levels
 
 
 @dataclass(frozen=True)
-class Past:
+class Realization:
     """What happened in each period: the demand, what customers gave back, and the lead time that an order would have
     had that was placed then, in periods. One in `review` periods has a review, and that of the number `first` has one:
     crnsim reviews in each period. Orders are rounded up to packs of so many items: those of crnsim are not.
@@ -66,7 +66,9 @@ class Period(NamedTuple):
         return cost
 
 
-def periods_of(past: Past, levels: Iterable[Levels], initial: int) -> list[Period]:
+def periods_of(
+    past: Realization, levels: Iterable[Levels], initial: int
+) -> list[Period]:
     """Returns the periods of a policy that starts with a stock and nothing on order.
 
     Its s and S may change from one period to the next.

@@ -146,7 +146,7 @@ def own_processor() -> Iterator[None]:
         os.sched_setaffinity(0, allowed)
 
 
-class Runs:
+class ProgramRuns:
     """The runs of the program that are under way, perhaps in several threads."""
 
     def __init__(self) -> None:
@@ -203,7 +203,7 @@ def has_ended(run: subprocess.Popen[bytes]) -> bool:
 
 
 def run_program(
-    program: Path, text: str, *words: str, together: Runs | None = None
+    program: Path, text: str, *words: str, together: ProgramRuns | None = None
 ) -> str:
     """Runs the program with words on a text, perhaps together with other runs, and returns its standard output. Raises
     ProgramError with its line.
@@ -218,7 +218,7 @@ def run_program(
         given.write(text.encode())
         given.seek(0)
         try:
-            status = (together or Runs()).status_of(
+            status = (together or ProgramRuns()).status_of(
                 program, words, given, output, errors
             )
         except OSError as fault:
@@ -254,7 +254,7 @@ def run_all(
     if len(given) == 1:
         # As for most items of a catalogue: threads would take longer than the run.
         return [run_program(program, *given[0])]
-    together = Runs()
+    together = ProgramRuns()
     with ThreadPoolExecutor(jobs) as pool:
         # When one has failed, the map begins no more runs.
         def run_one(run: tuple[str, ...]) -> str:

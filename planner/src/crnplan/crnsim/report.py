@@ -50,7 +50,7 @@ MAY_LACK = ("diff_var", "cov")
 
 
 @dataclass(frozen=True)
-class Row:
+class ReportRow:
     """A row of a report: a policy (s and S in items), and its exact costs in the money that its scenario was made from.
 
     Differences are from the costs of the first policy, as docs/FORMATS.md defines them. `diff_var` and `cov` are None
@@ -67,7 +67,7 @@ class Row:
     diff_var: Fraction | None
     cov: Fraction | None
 
-    def times(self, factor: Fraction) -> Row:
+    def times(self, factor: Fraction) -> ReportRow:
         """Returns the row with so many units of another money for one."""
         if factor == 1:
             return self
@@ -82,12 +82,12 @@ class Row:
         )
 
 
-def policies_in(rows: Iterable[Row]) -> list[Policy]:
+def policies_in(rows: Iterable[ReportRow]) -> list[Policy]:
     """Returns the policies of a report."""
     return [Policy(row.policy, row.s, row.S) for row in rows]
 
 
-def csv_of(rows: Iterable[Row], scale: Fraction = Fraction(1)) -> str:
+def csv_of(rows: Iterable[ReportRow], scale: Fraction = Fraction(1)) -> str:
     """Returns rows as the program would write them, in its whole numbers: one of money counts `scale` there."""
     return DataTable.of(COLUMNS, [row.times(scale) for row in rows]).csv
 
@@ -114,7 +114,7 @@ def _value(name: str, cell: str, place: str, line: int) -> Any:
     return int(cell) if whole else Fraction(cell)
 
 
-def read_rows(text: str, place: str = "") -> list[Row]:
+def read_rows(text: str, place: str = "") -> list[ReportRow]:
     """Returns the rows of a report, in its order. `place` names the report in an error.
 
     Raises Refused if a line is none of a report, or if the first policy is not the base.
@@ -131,12 +131,14 @@ def read_rows(text: str, place: str = "") -> list[Row]:
         )
     if not lines:
         raise _refused("the report has no policy", place, 0)
-    rows = list[Row]()
+    rows = list[ReportRow]()
     for line, cells in enumerate(lines, 2):
         if len(cells) != len(HEADER):
             raise _refused(f"{len(cells)} columns, not {len(HEADER)}", place, line)
         rows.append(
-            Row(*(_value(name, cell, place, line) for name, cell in zip(HEADER, cells)))
+            ReportRow(
+                *(_value(name, cell, place, line) for name, cell in zip(HEADER, cells))
+            )
         )
     if rows[0].diff_total != 0:
         raise _refused(
@@ -145,7 +147,7 @@ def read_rows(text: str, place: str = "") -> list[Row]:
     return rows
 
 
-def rows_of(scenario: ScenarioData, text: str, program: str | Path) -> list[Row]:
+def rows_of(scenario: ScenarioData, text: str, program: str | Path) -> list[ReportRow]:
     """Returns the rows of the report on a scenario, in the money that it was made from. Raises ProgramError if the
     program's output is no such report."""
     try:
@@ -161,10 +163,10 @@ def rows_of(scenario: ScenarioData, text: str, program: str | Path) -> list[Row]
 
 
 def pooled(
-    reports: Sequence[Sequence[Row]], replications: int, periods: int
-) -> list[Row]:
+    reports: Sequence[Sequence[ReportRow]], replications: int, periods: int
+) -> list[ReportRow]:
     """Returns the rows of all replications. Each of the reports has the same policies and so many replications."""
-    rows, own = list[Row](), replications
+    rows, own = list[ReportRow](), replications
     count = own * len(reports)
     base = sum(report[0].total for report in reports)
     for column in zip(*reports, strict=True):
@@ -181,7 +183,7 @@ def pooled(
         variance = (squares - Fraction(difference**2, count)) / (count * (count - 1))
         covariance = (products - Fraction(total * base, count)) / (count - 1)
         rows.append(
-            Row(
+            ReportRow(
                 column[0].policy,
                 column[0].s,
                 column[0].S,
@@ -212,7 +214,9 @@ def parts_of(scenario: ScenarioData) -> list[ScenarioData]:
     ]
 
 
-def joined(reports: Sequence[Sequence[Row]], program: str | Path) -> list[Row]:
+def joined(
+    reports: Sequence[Sequence[ReportRow]], program: str | Path
+) -> list[ReportRow]:
     """Returns the rows of all reports, the base once. Raises ProgramError if it has not the same row in all."""
     base = reports[0][0]
     if any(rows[0] != base for rows in reports):
@@ -225,7 +229,7 @@ def joined(reports: Sequence[Sequence[Row]], program: str | Path) -> list[Row]:
 
 def rows_of_run(
     scenario: ScenarioData, program: str | Path | None = None
-) -> tuple[Row, ...]:
+) -> tuple[ReportRow, ...]:
     """Runs a scenario, whose first policy is the base, on any number of policies, and returns the rows of all.
 
     Raises ScenarioError with all faults, Refused without a review in each period, and ProgramError.

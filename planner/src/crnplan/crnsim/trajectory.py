@@ -22,7 +22,7 @@ from ..errors import ProgramError, Refused, argument
 from ..law import Law
 from ..scenario import ScenarioData
 from ..table import DataTable, Result
-from .periods import Past, Period, Rates, periods_of
+from .periods import Realization, Period, Rates, periods_of
 from .program import find_program, run_all
 from .pictures import trajectories_picture
 from .report import rows_of_run
@@ -111,7 +111,7 @@ def drawn(law: Law | None, words: Sequence[int]) -> list[int]:
     return values
 
 
-def draws_of(scenario: ScenarioData, periods: int, program: Path) -> Past:
+def draws_of(scenario: ScenarioData, periods: int, program: Path) -> Realization:
     """Returns what the first periods of replication 0 draw. Raises ProgramError."""
     blocks = range(-(-periods // PERIODS_OF_BLOCK))
     streams: list[list[int]] = [[] for _ in formats.DRAWS]
@@ -127,7 +127,7 @@ def draws_of(scenario: ScenarioData, periods: int, program: Path) -> Past:
         for words, line in zip(streams, lines.groups()):
             words += [int(word, 16) for word in line.split()]
     demand, lead, returns = (words[:periods] for words in streams)
-    return Past(
+    return Realization(
         drawn(scenario.demand, demand),
         drawn(scenario.returns, returns),
         drawn(scenario.lead, lead),

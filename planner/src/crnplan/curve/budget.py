@@ -10,7 +10,7 @@ import numpy as np
 from ..errors import Refused, argument
 from ..theory.levels import NEAR
 from .exchange import Items
-from .parts import AS_IS, VALUE, Choice, Dearer, Point
+from .parts import AS_IS, VALUE, CurveChoice, Dearer, Point
 
 # Costs of an order are doubled until there are few enough orders, then halved between the last two.
 DOUBLINGS = 13
@@ -58,14 +58,14 @@ class Budget:
                 "leave one out",
             )
 
-    def choice(self, items: Items, dearer: Dearer = AS_IS) -> Choice | None:
+    def choice(self, items: Items, dearer: Dearer = AS_IS) -> CurveChoice | None:
         """Returns the choice that keeps the stock value or the share; None if none does."""
         ladder = items.ladder(dearer)
         if self.value is not None:
             return ladder.with_value(self.value)
         return ladder.with_fill(self.fill or 0.0)
 
-    def kept(self, choice: Choice | None) -> Choice | None:
+    def kept(self, choice: CurveChoice | None) -> CurveChoice | None:
         """Returns a choice that has no more orders than are allowed; None if it has more."""
         if choice is None or choice.point.orders > (self.orders or math.inf) * (
             1 + NEAR
@@ -74,7 +74,7 @@ class Budget:
         return choice
 
 
-def chosen_by(items: Items, budget: Budget) -> Choice:
+def chosen_by(items: Items, budget: Budget) -> CurveChoice:
     """Returns the choice for a budget: on the curve if one keeps it. Raises OffCurve if none does, and for more than
     the curve has.
 
@@ -120,7 +120,7 @@ def check_within(items: Items, budget: Budget) -> None:
         )
 
 
-def with_more_orders(items: Items, budget: Budget) -> Choice:
+def with_more_orders(items: Items, budget: Budget) -> CurveChoice:
     """Returns the choice with the greatest extra cost of stock with which there are few enough orders: it uses all that
     are allowed. Raises OffCurve if no choice keeps the budget."""
     choice = _border(
@@ -141,12 +141,12 @@ def with_more_orders(items: Items, budget: Budget) -> Choice:
     return choice
 
 
-def with_fewer_orders(items: Items, budget: Budget, first: Choice) -> Choice:
+def with_fewer_orders(items: Items, budget: Budget, first: CurveChoice) -> CurveChoice:
     """Returns the choice with the least extra cost of an order with which there are few enough orders; `first` has too
     many. Raises OffCurve if no choice keeps the budget."""
     fewest = first.point.orders
 
-    def choice_of(amount: float) -> Choice | None:
+    def choice_of(amount: float) -> CurveChoice | None:
         nonlocal fewest
         choice = budget.choice(items, Dearer(orders=amount))
         if choice:
@@ -166,10 +166,10 @@ def with_fewer_orders(items: Items, budget: Budget, first: Choice) -> Choice:
 
 def _border(
     most: float,
-    choice_of: Callable[[float], Choice | None],
-    first: Choice | None,
+    choice_of: Callable[[float], CurveChoice | None],
+    first: CurveChoice | None,
     is_least: bool,
-) -> Choice | None:
+) -> CurveChoice | None:
     """Returns the choice with the least extra cost, or the greatest, with which a budget is kept; None if there is
     none. `choice_of` has the choice for an extra cost, `first` is that for none."""
     low = 0.0

@@ -14,7 +14,7 @@ from ..plan.answer import CHOSEN, TODAY
 from ..plan.question import Levels, Question
 from ..policies import Policy
 from .gathered import Gathered
-from .parts import Choice
+from .parts import CurveChoice
 
 # Runs of each item that crnsim counts the stock of, of 1,024 periods each.
 KEYS = 8
@@ -45,7 +45,7 @@ def stocks_by_run(
 
 def sampled_sums(
     gathered: Gathered,
-    choices: Mapping[str, Choice],
+    choices: Mapping[str, CurveChoice],
     sample: Sequence[str],
     program: str | Path | None,
 ) -> dict[str, Floats]:
@@ -83,7 +83,7 @@ def sampled_sums(
 
 def confirmed(
     gathered: Gathered,
-    choices: Mapping[str, Choice],
+    choices: Mapping[str, CurveChoice],
     said: Mapping[str, str],
     count: int,
     program: str | Path | None,

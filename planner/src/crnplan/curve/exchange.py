@@ -28,7 +28,7 @@ from .parts import (
     FIGURES,
     UNMET,
     VALUE,
-    Choice,
+    CurveChoice,
     Dearer,
     Point,
     Steps,
@@ -87,7 +87,7 @@ class Items:
         )
         return Point(value, 1 - int(sums[UNMET]) / self.asked, orders, cost)
 
-    def policies(self, choice: Choice) -> Iterator[Chosen]:
+    def policies(self, choice: CurveChoice) -> Iterator[Chosen]:
         """Yields the policies of all items in a choice."""
         ends = [*self.starts[1:], self.count]
         choices = (
@@ -137,7 +137,7 @@ def grid(low: float, high: float) -> Floats:
     return prices
 
 
-class Stretch(NamedTuple):
+class LadderPart(NamedTuple):
     """Steps of a ladder above a price, up to another one: how many, sums of figures before and after them, in units,
     and what those add to the stock value that lower it; the least and the greatest price of a step.
     """
@@ -171,7 +171,7 @@ class Ladder:
         self.start, self.end = self.grid[0].before, self.grid[-1].after
         self.whole = [stretch for stretch in self.grid if stretch.steps]
 
-    def stretches(self, edges: Floats, before: Whole | None = None) -> list[Stretch]:
+    def stretches(self, edges: Floats, before: Whole | None = None) -> list[LadderPart]:
         """Returns the stretches between prices. The figures `before` are those of the start, if they are not known."""
         counts = np.zeros(1, int)
         sums = np.zeros(1, int)
@@ -186,7 +186,7 @@ class Ladder:
         first = start if before is None else before
         places = np.column_stack([first, first[:, None] + np.cumsum(changes, axis=1)]).T
         return [
-            Stretch(*row)
+            LadderPart(*row)
             for row in zip(
                 edges.tolist(),
                 edges[1:].tolist(),
@@ -212,17 +212,17 @@ class Ladder:
         order = np.argsort(prices, kind="stable")
         return Steps(prices[order], owner[order], changes[:, order])
 
-    def places(self, stretch: Stretch) -> tuple[Steps, Whole]:
+    def places(self, stretch: LadderPart) -> tuple[Steps, Whole]:
         """Returns the steps of a stretch, and the sums of figures before the first, after it, and so on."""
         steps = self.steps(steps_of, stretch.low, stretch.high)
         return steps, np.column_stack(
             [stretch.before, stretch.before[:, None] + np.cumsum(steps.changes, axis=1)]
         )
 
-    def cut(self, stretch: Stretch) -> list[Stretch]:
+    def cut(self, stretch: LadderPart) -> list[LadderPart]:
         return self.stretches(grid(stretch.least, stretch.most), stretch.before)
 
-    def extreme(self, way: int, stretches: Sequence[Stretch] = ()) -> int:
+    def extreme(self, way: int, stretches: Sequence[LadderPart] = ()) -> int:
         """Returns the greatest stock value along the ladder, or the least if `way` is -1, in units. It may fall."""
         some = stretches or self.grid
         best = max(
@@ -246,7 +246,7 @@ class Ladder:
         return way * best
 
     def crossing(
-        self, figure: int, way: int, most: int, stretches: Sequence[Stretch]
+        self, figure: int, way: int, most: int, stretches: Sequence[LadderPart]
     ) -> Crossing | None:
         """Returns the last step before which a figure, times `way`, is at most so much; None if it is always more. At
         the end it is more."""
@@ -265,7 +265,7 @@ class Ladder:
         return None
 
     def _last(
-        self, figure: int, way: int, most: int, stretch: Stretch
+        self, figure: int, way: int, most: int, stretch: LadderPart
     ) -> Crossing | None:
         """Returns the last step of a stretch before which a figure is at most so much."""
         steps, places = self.places(stretch)
@@ -286,9 +286,9 @@ class Ladder:
         owner: int,
         sums: Whole,
         moved: Mapping[int, int] | None = None,
-    ) -> Choice:
+    ) -> CurveChoice:
         """Returns the choice with all steps up to that of a price and an item, and what it amounts to."""
-        return Choice(
+        return CurveChoice(
             self.dearer,
             price,
             owner,
@@ -296,13 +296,13 @@ class Ladder:
             self.items.point(sums),
         )
 
-    def with_price(self, place: int) -> Choice:
+    def with_price(self, place: int) -> CurveChoice:
         """Returns the best choice for a price of the grid."""
         return self.choice(
             self.grid[place].high, self.items.count, self.grid[place].after
         )
 
-    def with_fill(self, fill: float) -> Choice | None:
+    def with_fill(self, fill: float) -> CurveChoice | None:
         """Returns a choice that meets a share of demand by value; None if no choice does."""
         allowed = math.floor((1 - fill + NEAR) * self.items.asked)
         if self.end[UNMET] > allowed:
@@ -313,7 +313,7 @@ class Ladder:
         # Steps that are not needed are taken back, the dearest first, each item's last one first.
         return self._moved(border, UNMET, -1, allowed - int(border.after[UNMET]))
 
-    def with_value(self, most: float) -> Choice | None:
+    def with_value(self, most: float) -> CurveChoice | None:
         """Returns the choice with the best service whose stock is worth no more; None if no choice is."""
         allowed = math.floor(most * (1 + NEAR) / self.items.units[VALUE])
         if self.end[VALUE] <= allowed:
@@ -324,7 +324,9 @@ class Ladder:
             border, VALUE, 1, allowed - int(border.before[VALUE])
         )
 
-    def _moved(self, border: Crossing, figure: int, way: int, spare: int) -> Choice:
+    def _moved(
+        self, border: Crossing, figure: int, way: int, spare: int
+    ) -> CurveChoice:
         """Returns a choice at a border, in which steps beside it are taken, or taken back, one by one, each of which
         uses some of what is to spare of a figure. An item for whose step there is too little stays as it is.
         """
@@ -359,11 +361,11 @@ class Ladder:
                 falls += window.falls
         return self.choice(border.price, border.owner - (way > 0), sums, moved)
 
-    def windows(self, price: float, way: int) -> list[Stretch]:
+    def windows(self, price: float, way: int) -> list[LadderPart]:
         """Returns stretches from a price on, upwards or downwards, to that at which a budget is no longer filled: each
         with few steps, if they have different prices."""
         low, high = sorted((price, price * FILL**way))
-        windows = list[Stretch]()
+        windows = list[LadderPart]()
         for stretch in self.stretches(grid(low, high)):
             if windows and windows[-1].steps + stretch.steps <= MOST_STEPS:
                 last = windows.pop()

@@ -33,7 +33,7 @@ from .budget import Budget, OffCurve, chosen_by, gap_of, with_more_orders
 from .confirmed import confirmed
 from .exchange import Items
 from .gathered import Gathered, gather
-from .parts import Choice, Point
+from .parts import CurveChoice, Point
 from .past import CurvePast
 from .pictures import exchange_plot
 
@@ -90,7 +90,7 @@ TRIED_SO = (
 
 
 @dataclass(frozen=True, eq=False, repr=False)
-class Drawn(Result):
+class ExchangeCurve(Result):
     """The curve: its points by price, the points that have a name with their gaps, what each is for a reader, and why
     others are missing. `written` names the point whose policies are written: those of the `choice`. `confirmed` has
     lines on what crnsim counts. If the points were tried on the past of so many items, `tried`, `past` has what they met
@@ -103,7 +103,7 @@ class Drawn(Result):
     said: dict[str, str]
     missing: dict[str, str]
     written: str
-    choice: Choice
+    choice: CurveChoice
     confirmed: list[str]
     past: Mapping[str, float]
     tried: int
@@ -122,7 +122,7 @@ class Drawn(Result):
             named[self.said[name] + met] = point
         return named
 
-    def keep(self) -> Drawn:
+    def keep(self) -> ExchangeCurve:
         """Reads all tables, and returns the curve, which no longer needs the folder."""
         for name in KEPT:
             getattr(self, name)
@@ -240,7 +240,9 @@ class Drawn(Result):
         return self.gathered.folder.table(POLICY_COLUMNS, rows)
 
 
-def policy_rows(gathered: Gathered, choice: Choice) -> Iterator[Mapping[str, object]]:
+def policy_rows(
+    gathered: Gathered, choice: CurveChoice
+) -> Iterator[Mapping[str, object]]:
     """Yields the policy of each item in a choice with its figures, and then each item that is not on the curve, with the
     reason and what to do."""
     for policy in gathered.items.policies(choice):
@@ -251,11 +253,11 @@ def policy_rows(gathered: Gathered, choice: Choice) -> Iterator[Mapping[str, obj
 
 def points_of(
     gathered: Gathered, budget: Budget
-) -> tuple[dict[str, Choice], dict[str, str]]:
+) -> tuple[dict[str, CurveChoice], dict[str, str]]:
     """Returns the choices that have a name, and of others why there are none. Raises Refused for a budget that no
     choice keeps."""
     today = gathered.points[TODAY]
-    choices = dict[str, Choice]()
+    choices = dict[str, CurveChoice]()
     missing = dict[str, str]()
     for name, asked in (
         (SAME_STOCK, Budget(value=today.value)),
@@ -272,7 +274,7 @@ def points_of(
     return choices, missing
 
 
-def _as_today(items: Items, today: Point, asked: Budget) -> Choice:
+def _as_today(items: Items, today: Point, asked: Budget) -> CurveChoice:
     """Returns the choice with today's stock or service.
 
     With many small orders today may be better than the curve, which has fewer; or the curve begins above it. Then the
@@ -319,7 +321,7 @@ def draw(
     confirm: int,
     program: str | Path | None,
     on_past: CurvePast | None = None,
-) -> Drawn:
+) -> ExchangeCurve:
     """Returns the curve with its points, and perhaps what crnsim counts, and what was met on the past."""
     choices, missing = points_of(gathered, budget)
     items = gathered.items
@@ -343,7 +345,7 @@ def draw(
     curve, past, tried = curve_points(items), dict[str, float](), 0
     if on_past:
         past, tried = on_past.met(choices)
-    return Drawn(
+    return ExchangeCurve(
         gathered, curve, points, said, missing, written, choice, sample, past, tried
     )
 
@@ -388,7 +390,7 @@ def exchange_curve(
     program: str | Path | None = None,
     confirm: int = 0,
     progress: bool = False,
-) -> Drawn:
+) -> ExchangeCurve:
     """Returns the exchange curve of a planned folder: how much service a stock of some value can give.
 
     Points are `today`, `chosen` (item by item, by the plan), `same stock` and `same service` (as today's, on the curve),
@@ -423,7 +425,7 @@ def exchange_curve(
 
     Returns
     -------
-    Drawn
+    ExchangeCurve
         `frame` has the points and `policies` the policy of each item. Columns, of a period in the long run and by theory: point,
         price, value (of the mean stock, in money), fill (the share of demand by value that is met at once), orders, cost
         (setup and holding, in money), and gap (the share by which the cost is at most above the least with this service).

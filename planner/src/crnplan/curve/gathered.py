@@ -29,12 +29,12 @@ from ..plan.how import Settings
 from ..plan.question import terms_of
 from ..read.item import Item
 from ..remarks import Remark
-from ..store.stored import Question, Store
+from ..store.stored import NamedDigest, Store
 from ..words import advice, sentence
 from ..store.work import Known, Work
 from .candidates import VERSION, Candidates, candidates_of
 from .exchange import Items
-from .parts import AS_IS, Dearer, Hulls, Part, Point
+from .parts import AS_IS, Dearer, Hulls, CurvePart, Point
 
 # The candidates, and what is made of those of a part.
 CANDIDATES, HULLS = f"{IN_KEPT}curve.sqlite", f"{IN_KEPT}hulls.sqlite"
@@ -67,7 +67,7 @@ def on_curve(item: Item, answer: Answer, settings: Settings) -> OnCurve:
     return OnCurve(float(item.price or 0), item.levels is not None, now, candidates)
 
 
-def questions_of(planned: PlannedFolder) -> Iterator[Question]:
+def questions_of(planned: PlannedFolder) -> Iterator[NamedDigest]:
     """Yields the items of a planned folder, each with the digest of all that its candidates depend on."""
     prices = planned.read.cells("price")
     for (name, digest), (price,) in zip(
@@ -111,7 +111,7 @@ class Held:
     hulls: Hulls
 
 
-def whole_part(folder: Path, names: Names) -> Part:
+def whole_part(folder: Path, names: Names) -> CurvePart:
     """Returns the part of some items, with their candidates. Raises Damaged."""
     items = list[tuple[str, float, Candidates, Floats]]()
     with Store(folder / CANDIDATES, OnCurve, is_known=True) as kept:
@@ -120,10 +120,10 @@ def whole_part(folder: Path, names: Names) -> Part:
                 items.append(
                     (name, answer.price, answer.candidates, np.array(answer.now))
                 )
-    return Part.of(items)
+    return CurvePart.of(items)
 
 
-class KeptPart(Part):
+class KeptPart(CurvePart):
     """The part of the items of some names. What is needed in each round is kept."""
 
     def __init__(self, folder: Path, names: Names) -> None:
@@ -133,7 +133,7 @@ class KeptPart(Part):
         self._known[AS_IS] = held.hulls
 
     @functools.cached_property
-    def _whole(self) -> Part:
+    def _whole(self) -> CurvePart:
         return whole_part(self._folder, self._part)
 
     def _hulls(self, dearer: Dearer) -> Hulls:
@@ -153,7 +153,7 @@ class KeptPart(Part):
         return held
 
 
-def held_as(names: Names, dearer: Dearer = AS_IS) -> Question:
+def held_as(names: Names, dearer: Dearer = AS_IS) -> NamedDigest:
     """Returns under which name, and with which digest, it is kept what is needed of a part: at costs as they are, or at
     the last other ones."""
     return f"{names.first} {dearer == AS_IS}", digest_of(*names, *dearer)
@@ -169,7 +169,7 @@ def ask_part(
     return function(part_of(folder, names), *words)
 
 
-class Parts:
+class CurveParts:
     """The items of a folder in parts. Workers are asked while there are any, else this process."""
 
     def __init__(self, folder: Path, kept: Store[OnCurve]) -> None:
@@ -179,7 +179,7 @@ class Parts:
         for some in batched(self._on_curve(kept), MOST_ITEMS):
             self.parts.append(Names(some[0][0], some[-1][0], digest_of(*some)))
 
-    def _on_curve(self, kept: Store[OnCurve]) -> Iterator[Question]:
+    def _on_curve(self, kept: Store[OnCurve]) -> Iterator[NamedDigest]:
         """Yields the items on the curve, each with what it depends on, and counts others and those without a policy
         today."""
         states = zip(kept.digests(), kept.cells("has_today"), strict=True)
@@ -219,7 +219,7 @@ class Gathered:
     """
 
     folder: PlannedFolder
-    parts: Parts
+    parts: CurveParts
     items: Items
     points: dict[str, Point]
     new: int
@@ -242,7 +242,7 @@ def gather(own: Folder, folder: PlannedFolder, means: Means) -> Iterator[Gathere
             load=load_compiler,
         )
         work.finish(means.workers(), shown=means.shown)
-        parts = Parts(folder.path.resolve(), kept)
+        parts = CurveParts(folder.path.resolve(), kept)
         if not parts.parts:
             raise no_item(folder, parts)
         hulls.renew()
@@ -258,7 +258,7 @@ def gather(own: Folder, folder: PlannedFolder, means: Means) -> Iterator[Gathere
             parts.workers = Workers()
 
 
-def no_item(folder: PlannedFolder, parts: Parts) -> Refused:
+def no_item(folder: PlannedFolder, parts: CurveParts) -> Refused:
     """Returns why no item is on the curve."""
     if not parts.out:
         return Refused(

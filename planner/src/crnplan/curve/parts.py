@@ -60,7 +60,7 @@ def in_units(figures: Floats, units: Units) -> Whole:
 
 
 @dataclass(frozen=True)
-class Rows:
+class CandidateRows:
     """The candidates of some items: arrays with a row for each, by item, variant of costs, and price.
 
     `owner` is the item's place in the part; `first` and `end` are the prices for which it is best. `figures` has a row
@@ -104,7 +104,7 @@ class Rows:
         return costs
 
 
-class Part:
+class CurvePart:
     """Some items: by item their `names`, the `demand`, in value, and the figures of `now`, of today's policies and of
     the chosen ones. Their candidates are loaded when they are needed."""
 
@@ -113,13 +113,13 @@ class Part:
         names: tuple[str, ...],
         demand: Floats,
         now: Floats,
-        load: Callable[[], Rows],
+        load: Callable[[], CandidateRows],
     ) -> None:
         self.names, self.demand, self.now, self._load = names, demand, now, load
         self._known: dict[Dearer, Hulls] = {}
 
     @classmethod
-    def of(cls, answers: Iterable[tuple[str, float, Candidates, Floats]]) -> Part:
+    def of(cls, answers: Iterable[tuple[str, float, Candidates, Floats]]) -> CurvePart:
         """Takes the candidates of items, each with its name, its price, and the figures of today's policy and of the
         chosen one: stock, unmet demand and orders."""
         names, prices, candidates, policies = zip(*answers)
@@ -142,7 +142,7 @@ class Part:
         first = rows["first"]
         is_other = np.diff(owner) + (np.diff(rows["variant"]) != 0) > 0
         is_last = np.append(is_other, True)
-        loaded = Rows(
+        loaded = CandidateRows(
             (variants - own) / units,
             owner,
             rows["variant"],
@@ -156,7 +156,7 @@ class Part:
         return cls(names, price * demand, np.array(now), lambda: loaded)
 
     @functools.cached_property
-    def rows(self) -> Rows:
+    def rows(self) -> CandidateRows:
         """Returns the candidates."""
         return self._load()
 
@@ -190,7 +190,7 @@ class Hulls:
     below: Whole
 
     @classmethod
-    def of(cls, rows: Rows, dearer: Dearer) -> Hulls:
+    def of(cls, rows: CandidateRows, dearer: Dearer) -> Hulls:
         value, unmet, orders, cost = rows.figures
         cost = cost + dearer.orders * orders + dearer.stock * value
         kept = lower_hull(rows.owner, cost, unmet)
@@ -221,7 +221,7 @@ class Hulls:
         return first + int(np.searchsorted(self.owner[first:end], owner))
 
 
-def measured(part: Part) -> tuple[int, Floats, Floats]:
+def measured(part: CurvePart) -> tuple[int, Floats, Floats]:
     """Returns how many items there are, the greatest of each figure, and the greatest extra costs of orders and stock."""
     most = np.maximum(part.rows.figures.max(axis=1), part.now.max(axis=(0, 2)))
     most[UNMET] = max(most[UNMET], part.demand.max())
@@ -229,7 +229,7 @@ def measured(part: Part) -> tuple[int, Floats, Floats]:
     return len(part.names), most, part.rows.extra.max(axis=(0, 1))
 
 
-def summed(part: Part, units: Units) -> tuple[int, Whole]:
+def summed(part: CurvePart, units: Units) -> tuple[int, Whole]:
     """Returns the demand, in units of unmet demand, and the figures of today's policies and of the chosen ones."""
     asked = in_units(part.demand[None], units[UNMET : UNMET + 1]).sum()
     return int(asked), np.array(
@@ -237,7 +237,7 @@ def summed(part: Part, units: Units) -> tuple[int, Whole]:
     )
 
 
-def bounds_of(part: Part, units: Units, asked: Sequence[Dearer]) -> Whole:
+def bounds_of(part: CurvePart, units: Units, asked: Sequence[Dearer]) -> Whole:
     """Returns for each of some extra costs and each price the least costs without those of unmet demand, and the unmet
     demand, in units."""
     sums = np.zeros((len(asked), 2, len(PRICES) + 1), np.int64)
@@ -256,7 +256,7 @@ def bounds_of(part: Part, units: Units, asked: Sequence[Dearer]) -> Whole:
 
 
 def stretches_of(
-    part: Part, units: Units, dearer: Dearer, edges: Floats
+    part: CurvePart, units: Units, dearer: Dearer, edges: Floats
 ) -> tuple[Whole, Whole, Whole, Floats]:
     """Returns sums over the steps between edges of price, each with the edge at its end: how many there are, what they
     add to each figure, and to the stock value those that lower it; the figures before all steps; and the least and the
@@ -283,7 +283,7 @@ class Steps(NamedTuple):
 
 
 def steps_of(
-    part: Part, start: int, units: Units, dearer: Dearer, low: float, high: float
+    part: CurvePart, start: int, units: Units, dearer: Dearer, low: float, high: float
 ) -> Steps:
     """Returns the steps above a price, up to another one. `start` is the place of the part's first item."""
     hulls = part.hulls(dearer)
@@ -294,7 +294,7 @@ def steps_of(
 
 
 def fitting(
-    part: Part,
+    part: CurvePart,
     start: int,
     units: Units,
     dearer: Dearer,
@@ -329,7 +329,7 @@ def fitting(
     return Steps(hulls.prices[places], hulls.owner[places] + start, changes[:, places])
 
 
-class Choice(NamedTuple):
+class CurveChoice(NamedTuple):
     """A choice of policies: with what is dearer, each item takes the steps up to that of a price and an item, and so
     many more, or fewer, as `moved` says of some items: their places, rising, and the numbers of steps.
     """
@@ -340,7 +340,7 @@ class Choice(NamedTuple):
     moved: Whole
     point: Point
 
-    def of_part(self, start: int, count: int) -> Choice:
+    def of_part(self, start: int, count: int) -> CurveChoice:
         """Returns the choice of so many items from a place on, with places in their part."""
         some = self.moved[
             :, slice(*np.searchsorted(self.moved[0], (start, start + count)))
@@ -360,7 +360,7 @@ class Chosen(NamedTuple):
     cost: float
 
 
-def policies_of(part: Part, choice: Choice) -> list[Chosen]:
+def policies_of(part: CurvePart, choice: CurveChoice) -> list[Chosen]:
     """Returns the policies of the items of the part in its choice."""
     hulls = part.hulls(choice.dearer)
     steps = hulls.before(choice.price, choice.owner + 1)
@@ -373,6 +373,6 @@ def policies_of(part: Part, choice: Choice) -> list[Chosen]:
     return [*map(Chosen, part.names, *(column.tolist() for column in columns))]
 
 
-def names_of(part: Part) -> tuple[str, ...]:
+def names_of(part: CurvePart) -> tuple[str, ...]:
     """Returns the names of the items of the part."""
     return part.names

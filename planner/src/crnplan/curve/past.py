@@ -33,12 +33,12 @@ from ..store.stored import Store
 from .budget import Budget
 from .candidates import PRICES
 from .gathered import CANDIDATES, Gathered, OnCurve
-from .parts import Choice
+from .parts import CurveChoice
 
 POINTS = f"{IN_KEPT}curve_past.sqlite"
 
 
-class Case(NamedTuple):
+class UnitCosts(NamedTuple):
     """What a unit of value costs that is not met at once, and what an order and a unit of the value of stock cost beside
     setup and holding."""
 
@@ -47,13 +47,13 @@ class Case(NamedTuple):
     stock: float
 
 
-def case_of(choice: Choice) -> Case:
+def case_of(choice: CurveChoice) -> UnitCosts:
     """Returns by which costs the policies of a choice are best; its price is within those of the curve."""
     price = float(np.clip(choice.price, PRICES[0], PRICES[-1]))
-    return Case(price, *choice.dearer)
+    return UnitCosts(price, *choice.dearer)
 
 
-def best_by(question: Question, cases: Sequence[Case]) -> list[Levels]:
+def best_by(question: Question, cases: Sequence[UnitCosts]) -> list[Levels]:
     """Returns the best policy of an item in each case, in boxes."""
     if not cases:
         return []
@@ -71,7 +71,7 @@ def best_by(question: Question, cases: Sequence[Case]) -> list[Levels]:
 
 
 def tried_of(
-    item: Item, settings: Settings, prior: Prior, cases: Sequence[Case]
+    item: Item, settings: Settings, prior: Prior, cases: Sequence[UnitCosts]
 ) -> Offer:
     """Returns what an item leaves unmet of its record by value: with today's levels, or the plan's if it has none, by
     the plan, and in each case. Raises Refused if it can't be planned."""
@@ -161,7 +161,7 @@ class CurvePast:
             return budget
         return dataclasses.replace(budget, fill=self.price(budget.fill).promised)
 
-    def met(self, choices: Mapping[str, Choice]) -> tuple[dict[str, float], int]:
+    def met(self, choices: Mapping[str, CurveChoice]) -> tuple[dict[str, float], int]:
         """Returns by name which share of demand by value today's levels, the chosen ones and those of choices met on the
         past, and how many items were tried. Raises Refused if too few can be."""
         planned, sizes = self.gathered.folder, self.sizes()

@@ -17,7 +17,7 @@ from pathlib import Path
 
 from .. import formats
 from ..read.judging import judged
-from ..crnsim.report import Row, policies_in, rows_of_run
+from ..crnsim.report import ReportRow, policies_in, rows_of_run
 from ..errors import Refused, argument
 from ..remarks import Remark, Value
 from ..scenario import ScenarioData
@@ -30,7 +30,7 @@ from .verdicts import (
     FEWEST_ORDERS,
     MOST_ROWS,
     Decision,
-    Estimate,
+    RunEstimate,
     decided,
     estimates_of,
     far_from,
@@ -54,14 +54,14 @@ class LongRunReport(Result):
     """
 
     scenario: ScenarioData
-    rows: tuple[Row, ...]
+    rows: tuple[ReportRow, ...]
     replications: int
     bias: StartBias
 
     @classmethod
     def of(
         cls,
-        rows: Sequence[Row],
+        rows: Sequence[ReportRow],
         scenario: ScenarioData,
         replications: int,
         known: LongRun | None = None,
@@ -103,7 +103,7 @@ class LongRunReport(Result):
         return [total / scenario.periods + usual for total in self.bias.biases]
 
     @cached_property
-    def estimates(self) -> list[Estimate]:
+    def estimates(self) -> list[RunEstimate]:
         """Returns what the run says of each policy, in money of a period."""
         periods = self.scenario.periods
         orders = list[float]()
@@ -185,7 +185,7 @@ class LongRunReport(Result):
             yield Remark("far from theory", {"policies": names_of([*far], MOST_ROWS)})
 
 
-def _without_interval(estimates: Sequence[Estimate]) -> Iterator[Remark]:
+def _without_interval(estimates: Sequence[RunEstimate]) -> Iterator[Remark]:
     """Yields what must be said of policies without an interval."""
     few, same = list[str](), list[str]()
     for own in estimates[1:]:
@@ -232,7 +232,7 @@ def long_run_of(
     return LongRunReport.of(rows_of_run(asked, program), asked, keys)
 
 
-def end_warning(scenario: ScenarioData, rows: Sequence[Row]) -> list[Remark]:
+def end_warning(scenario: ScenarioData, rows: Sequence[ReportRow]) -> list[Remark]:
     """Returns the warning that `unit` charges what is left at the end, if policies are compared: in long-run means."""
     unit, base = scenario.money(scenario.costs.unit), rows[0].policy
     if unit == 0 or len(rows) < 2:
@@ -258,7 +258,7 @@ def end_warning(scenario: ScenarioData, rows: Sequence[Row]) -> list[Remark]:
     return [Remark("unit of the cheapest" if place else "unit at the end", facts)]
 
 
-def start_warning(rows: Sequence[Row], scenario: ScenarioData) -> list[Remark]:
+def start_warning(rows: Sequence[ReportRow], scenario: ScenarioData) -> list[Remark]:
     """Returns the warning that a report on the coming periods says little of the long run, if theory tells so exactly.
     `unit` is left out, since `end_warning` is about that."""
     if scenario.replications < 2 or len(rows) < 2:
@@ -280,7 +280,7 @@ def start_warning(rows: Sequence[Row], scenario: ScenarioData) -> list[Remark]:
 
 
 def coming_decision(
-    given: Sequence[Row], scenario: ScenarioData, level: float = 0.95
+    given: Sequence[ReportRow], scenario: ScenarioData, level: float = 0.95
 ) -> Decision:
     """Compares the policies of a report on the coming periods of a scenario. Warnings say what the end and the start of
     a replication do to the verdicts on the listed ones."""

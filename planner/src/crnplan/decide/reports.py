@@ -4,7 +4,7 @@ from __future__ import annotations
 from collections.abc import Sequence
 
 from .. import formats
-from ..crnsim.report import Row, policies_in, pooled, read_rows
+from ..crnsim.report import ReportRow, policies_in, pooled, read_rows
 from ..errors import Refused
 from ..policies import Policy
 from .verdicts import own_variance, periods_of
@@ -12,7 +12,7 @@ from .verdicts import own_variance, periods_of
 MOST_KEYS = 64  # that a report may be pooled of
 
 
-def _is_of(row: Row, base: Row, replications: int) -> bool:
+def _is_of(row: ReportRow, base: ReportRow, replications: int) -> bool:
     """Returns whether a row can be of a report with this number of replications and this base."""
     if not 1 <= replications <= formats.MOST_REPLICATIONS * MOST_KEYS:
         return False
@@ -32,7 +32,9 @@ def _is_of(row: Row, base: Row, replications: int) -> bool:
     return row.diff_var >= 0 and own_variance(row, base, replications) >= 0
 
 
-def check_replications(rows: Sequence[Row], replications: int, place: str) -> None:
+def check_replications(
+    rows: Sequence[ReportRow], replications: int, place: str
+) -> None:
     """Raises Refused if a row is of no report of this number of replications. `place` names the report."""
     for line, row in enumerate(rows, 2):
         if not _is_of(row, rows[0], replications):
@@ -41,7 +43,7 @@ def check_replications(rows: Sequence[Row], replications: int, place: str) -> No
             )
 
 
-def rows_in(data: bytes, name: str, replications: int) -> list[Row]:
+def rows_in(data: bytes, name: str, replications: int) -> list[ReportRow]:
     """Returns the rows of a report. Raises Refused if it is none of so many replications."""
     try:
         rows = read_rows(data.decode("utf-8"), name)
@@ -51,11 +53,13 @@ def rows_in(data: bytes, name: str, replications: int) -> list[Row]:
     return rows
 
 
-def read_reports(reports: Sequence[tuple[str, bytes]], replications: int) -> list[Row]:
+def read_reports(
+    reports: Sequence[tuple[str, bytes]], replications: int
+) -> list[ReportRow]:
     """Returns the rows of a report, or those of all replications of several, each with its name. Raises Refused if one
     is none of so many replications, or if they are not of one scenario under different keys.
     """
-    read = dict[str, list[Row]]()
+    read = dict[str, list[ReportRow]]()
     for name, data in reports:
         rows = rows_in(data, name, replications)
         for earlier, others in read.items():
@@ -76,7 +80,7 @@ def read_reports(reports: Sequence[tuple[str, bytes]], replications: int) -> lis
 
 
 def check_policies(
-    rows: Sequence[Row], policies: Sequence[Policy], report: str, scenario: str
+    rows: Sequence[ReportRow], policies: Sequence[Policy], report: str, scenario: str
 ) -> None:
     """Raises Refused if the rows are not those of a scenario's policies: names of both files."""
     given = policies_in(rows)

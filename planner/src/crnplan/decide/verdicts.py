@@ -17,7 +17,7 @@ from fractions import Fraction
 from typing import NamedTuple
 
 from ..columns import columns_of
-from ..crnsim.report import Row
+from ..crnsim.report import ReportRow
 from ..errors import Refused, argument
 from ..remarks import Remark
 from ..scenario import BY_ITS_LAWS
@@ -60,7 +60,7 @@ class Compared:
     theory_cost: float | None = None
 
 
-class Estimate(NamedTuple):
+class RunEstimate(NamedTuple):
     """What a run says of a policy in the long run, in money of a period: its cost, and that less the base's, each with
     its standard error. None stands for no error: the rarer policy hardly orders, or nothing varies. `orders` are those
     of the whole run, inf if they are only known to be many."""
@@ -72,12 +72,12 @@ class Estimate(NamedTuple):
     error: float | None
     orders: float
 
-    def in_money(self, scale: Fraction) -> Estimate:
+    def in_money(self, scale: Fraction) -> RunEstimate:
         """Returns the estimate in money of which one counts `scale` here."""
         times = float(scale)
         own = None if self.own_error is None else self.own_error / times
         error = None if self.error is None else self.error / times
-        return Estimate(
+        return RunEstimate(
             self.policy,
             self.cost / times,
             own,
@@ -98,7 +98,7 @@ class Gap(NamedTuple):
 
 
 def far_from(
-    estimates: Sequence[Estimate],
+    estimates: Sequence[RunEstimate],
     costs: Sequence[float],
     errors: float,
     spare: Sequence[float],
@@ -129,32 +129,32 @@ def t_quantile(tails: float, degrees: int) -> float:
     return math.sqrt(degrees * (1 - inside) / inside)
 
 
-def periods_of(row: Row, replications: int) -> Fraction | None:
+def periods_of(row: ReportRow, replications: int) -> Fraction | None:
     """Returns the periods of a replication that a row implies: None if the policy costs nothing."""
     is_known = row.total and row.per_period
     return row.total / (row.per_period * replications) if is_known else None
 
 
-def own_variance(row: Row, base: Row, replications: int) -> Fraction:
+def own_variance(row: ReportRow, base: ReportRow, replications: int) -> Fraction:
     """Returns the variance of a policy's own cost from one replication to the next, of which there are several."""
     assert row.diff_var is not None and row.cov is not None and base.cov is not None
     return replications * row.diff_var - base.cov + 2 * row.cov
 
 
-def own_error(row: Row, base: Row, replications: int) -> float:
+def own_error(row: ReportRow, base: ReportRow, replications: int) -> float:
     """Returns the standard error of the mean of a policy's own cost of a replication."""
     return math.sqrt(own_variance(row, base, replications) / replications)
 
 
 def estimates_of(
-    rows: Sequence[Row],
+    rows: Sequence[ReportRow],
     replications: int,
     periods: int,
     shifts: Sequence[float],
     orders: Sequence[float],
-) -> list[Estimate]:
+) -> list[RunEstimate]:
     """Returns an estimate of each policy of a report. `shifts` are taken from the costs of a period."""
-    estimates = list[Estimate]()
+    estimates = list[RunEstimate]()
     for row, shift, count in zip(rows, shifts, orders, strict=True):
         own = error = None
         if count >= FEWEST_ORDERS:
@@ -163,7 +163,7 @@ def estimates_of(
             error = math.sqrt(row.diff_var) / periods
         cost = float(row.per_period) - shift
         difference = float(row.diff_mean) / periods - shift + shifts[0]
-        estimates.append(Estimate(row.policy, cost, own, difference, error, count))
+        estimates.append(RunEstimate(row.policy, cost, own, difference, error, count))
     return estimates
 
 
@@ -182,8 +182,8 @@ def ends_of(middle: float, error: float | None, errors: float) -> Ends:
 
 
 def ranked(
-    rows: Sequence[Row],
-    estimates: Sequence[Estimate],
+    rows: Sequence[ReportRow],
+    estimates: Sequence[RunEstimate],
     percents: Sequence[float | None],
     level: float,
     replications: int,
@@ -226,9 +226,11 @@ def ranked(
     return tuple(sorted(policies, key=lambda policy: policy.diff))
 
 
-def decided(rows: Sequence[Row], replications: int, level: float = 0.95) -> Decision:
+def decided(
+    rows: Sequence[ReportRow], replications: int, level: float = 0.95
+) -> Decision:
     """Compares all rows of a report with its first one. Raises Refused for a level that is not between 0 and 1."""
-    base, estimates, percents = rows[0], list[Estimate](), list[float | None]()
+    base, estimates, percents = rows[0], list[RunEstimate](), list[float | None]()
     for row in rows:
         own = error = percent = None
         if replications > 1:
@@ -238,7 +240,9 @@ def decided(rows: Sequence[Row], replications: int, level: float = 0.95) -> Deci
         if base.total:
             percent = float(100 * Fraction(row.diff_total, base.total))
         cost, difference = float(row.per_period), float(row.diff_mean)
-        estimates.append(Estimate(row.policy, cost, own, difference, error, math.inf))
+        estimates.append(
+            RunEstimate(row.policy, cost, own, difference, error, math.inf)
+        )
         percents.append(percent)
     policies = ranked(rows, estimates, percents, level, replications)
     return Decision(policies, base.policy, replications, level)

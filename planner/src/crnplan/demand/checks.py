@@ -14,7 +14,14 @@ from ..remarks import Remark, Value
 from ..words import advised, sentence
 from .fitted import placed_numbers
 from .losses import loss_of
-from .order_tests import FALSE_ALARMS, LEAST_PERIODS, LEVELS, Check, Facts, tests_of
+from .order_tests import (
+    FALSE_ALARMS,
+    LEAST_PERIODS,
+    LEVELS,
+    OrderTest,
+    TestedHistory,
+    tests_of,
+)
 from .outliers import LEAST_DEMANDS, outliers_of
 from .permutation import centred, in_order, statistics_in
 from .sample import Sample
@@ -40,7 +47,7 @@ class Checks:
 
     periods: int
     demands: int
-    tests: tuple[Check, ...]
+    tests: tuple[OrderTest, ...]
     warnings: tuple[Remark, ...] = field(default=(), repr=False)
     notes: tuple[Remark, ...] = field(default=(), repr=False)
     unknown: tuple[Remark, ...] = field(default=(), repr=False)
@@ -163,7 +170,7 @@ def checks_of(
     if places is not None:
         of_known = (season.at(places) for season in seasons)
         seasons = [season for season in of_known if season.is_whole]
-    facts = Facts(numbers, seasons, every, first, known=places, sold=sold)
+    facts = TestedHistory(numbers, seasons, every, first, known=places, sold=sold)
     checks = Checks(
         len(numbers), len(numbers) - numbers.count(0), tests_of(facts, in_full)
     )
@@ -188,7 +195,7 @@ def checks_of(
     )
 
 
-def _warnings(facts: Facts, checks: Checks) -> Iterator[Remark]:
+def _warnings(facts: TestedHistory, checks: Checks) -> Iterator[Remark]:
     """Yields a warning for each test that warns, with what was lost in a study. Of a trend and a shift, the one that
     explains more is named."""
     kinds = {test.name: test for test in checks.tests if test.name in checks.warned}
@@ -215,7 +222,7 @@ def _warnings(facts: Facts, checks: Checks) -> Iterator[Remark]:
         )
 
 
-def _notes(facts: Facts) -> Iterator[Remark]:
+def _notes(facts: TestedHistory) -> Iterator[Remark]:
     """Yields what `check_history` says beside the tests."""
     numbers = facts.numbers
     demands = sorted((number for number in facts.numbers if number), reverse=True)
@@ -282,14 +289,14 @@ def largest_periods(
             {
                 "share": share,
                 **_largest(
-                    Facts(numbers, (), every, first, known=places), MOST_LARGEST
+                    TestedHistory(numbers, (), every, first, known=places), MOST_LARGEST
                 ),
             },
         ),
     )
 
 
-def _largest(facts: Facts, count: int) -> dict[str, Value]:
+def _largest(facts: TestedHistory, count: int) -> dict[str, Value]:
     """Returns the largest demands with their periods, as facts."""
     places, sold = largest_places(facts.numbers, count), facts.sold or facts.numbers
     demands: dict[str, Value] = {

@@ -31,7 +31,7 @@ DOUBT = {5: (2.3, 4.4), 10: (1.0, 3.0), 20: (0.5, 1.9)}
 
 
 @dataclass(frozen=True)
-class Figures:
+class LawSummary:
     """Mean, variance (None of a single number), quantiles and the largest value of a law, or of what was observed."""
 
     mean: float
@@ -40,7 +40,7 @@ class Figures:
     quantiles: Mapping[float, int]
 
     @classmethod
-    def of(cls, law: Law, *, is_sample: bool = False) -> Figures:
+    def of(cls, law: Law, *, is_sample: bool = False) -> LawSummary:
         """Computes the figures of a law. A sample has its unbiased variance."""
         values = np.array(law.values)
         weights = np.array(law.weights)
@@ -116,9 +116,9 @@ class Diagnostics:
     borrowed: Borrowed | None = None
 
     @cached_property
-    def history(self) -> Figures:
+    def history(self) -> LawSummary:
         """Returns the figures of what was observed."""
-        return Figures.of(self.seen, is_sample=True)
+        return LawSummary.of(self.seen, is_sample=True)
 
 
 @dataclass(frozen=True)
@@ -175,9 +175,9 @@ class FittedLaw(Law):
         return self.made(law, self.family, self.diagnostics, self.box)
 
     @cached_property
-    def figures(self) -> Figures:
+    def figures(self) -> LawSummary:
         """Returns mean, variance, quantiles and the largest value of the law."""
-        return Figures.of(self)
+        return LawSummary.of(self)
 
     @property
     def is_of_leads(self) -> bool:

@@ -143,7 +143,7 @@ def size_likelihoods(samples: Sequence[Sample]) -> Floats:
     return _scaled(logarithms)
 
 
-class Cells(NamedTuple):
+class CellLikelihoods(NamedTuple):
     """Likelihoods of cells, the means over their points: `sizes` has a row for each history, `shares` one for a group.
     A group has as many periods and demands, and so the same likelihoods of the share. `starts` has the row of `sizes`
     that each group starts at, `groups` the group of each history."""
@@ -154,7 +154,7 @@ class Cells(NamedTuple):
     groups: Whole
 
     @classmethod
-    def of(cls, samples: Sequence[Sample]) -> Cells:
+    def of(cls, samples: Sequence[Sample]) -> CellLikelihoods:
         """Computes the likelihoods of histories, of which those of a group stand together."""
         starts, groups = np.unique(
             [group_of(sample) for sample in samples],
@@ -213,21 +213,22 @@ def group_of(sample: Sample) -> tuple[int, int]:
     return sample.size, sample.demands
 
 
-def chunks_of(samples: Iterable[Sample]) -> list[Cells]:
+def chunks_of(samples: Iterable[Sample]) -> list[CellLikelihoods]:
     """Computes the likelihoods of histories by group, and within a group in their order."""
     every = sorted(samples, key=group_of)
     return [
-        Cells.of(every[start : start + CHUNK]) for start in range(0, len(every), CHUNK)
+        CellLikelihoods.of(every[start : start + CHUNK])
+        for start in range(0, len(every), CHUNK)
     ]
 
 
-def marginal(chunks: Iterable[Cells], prior: Floats) -> Floats:
+def marginal(chunks: Iterable[CellLikelihoods], prior: Floats) -> Floats:
     """Returns the likelihood of each history under a prior (cells of the share, cells of sizes)."""
     return np.concatenate([cells.marginal(prior) for cells in chunks])
 
 
 def estimated(
-    chunks: Sequence[Cells],
+    chunks: Sequence[CellLikelihoods],
     start: Floats,
     pull: Floats,
     *,

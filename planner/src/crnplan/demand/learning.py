@@ -44,13 +44,13 @@ FLAT_ITEMS = 1  # that the flat prior counts for
 CLASS_ITEMS = 30  # that the prior of the catalogue counts for in a class
 MOST_PULLED = 300  # A class with more items has a prior of its own.
 
-Numbers = Sequence[int]
-Histories = Mapping[str, Numbers] | Iterable[Numbers]
+History = Sequence[int]
+Histories = Mapping[str, History] | Iterable[History]
 Classes = Mapping[str, str | None] | Iterable[str | None]
 
 
 @dataclass(frozen=True, eq=False)
-class Learned:
+class GridPrior:
     """A prior on the grid (cells of the share, cells of sizes), in whole units of 2^-40. It has so many `items` of the
     catalogue or class within the grid, was estimated on those `sampled`, and `gain` is the mean log10 of their Bayes
     factors for it against the flat prior."""
@@ -61,7 +61,7 @@ class Learned:
     units: Whole
 
     @classmethod
-    def of(cls, chances: Floats, items: int, sampled: int, gain: float) -> Learned:
+    def of(cls, chances: Floats, items: int, sampled: int, gain: float) -> GridPrior:
         """Rounds chances to units, and a gain to six decimals."""
         return cls(
             items,
@@ -76,7 +76,7 @@ class Learned:
         return np.asarray(self.units / self.units.sum())
 
     @classmethod
-    def from_tree(cls, tree: Mapping[str, Any]) -> Learned:
+    def from_tree(cls, tree: Mapping[str, Any]) -> GridPrior:
         """Returns what a text has. Raises ValueError, TypeError or LookupError if it cannot be."""
         units = np.array(tree["units"], np.int64).reshape(FLAT.shape)
         if units.min() < 1:
@@ -110,9 +110,9 @@ class Prior:
     seed: int = 1
     items: int = 0
     outside: int = 0
-    whole: Learned | None = field(default=None, repr=False)
-    classes: Mapping[str, Learned] = field(default_factory=dict, repr=False)
-    packs: Learned | None = field(default=None, repr=False)
+    whole: GridPrior | None = field(default=None, repr=False)
+    classes: Mapping[str, GridPrior] = field(default_factory=dict, repr=False)
+    packs: GridPrior | None = field(default=None, repr=False)
 
     def __eq__(self, other: object) -> bool:
         return isinstance(other, Prior) and self.text == other.text
@@ -122,7 +122,7 @@ class Prior:
 
     def of_item(
         self, item_class: str | None, pack: int = 1
-    ) -> tuple[str, Learned | None]:
+    ) -> tuple[str, GridPrior | None]:
         """Returns the prior of an item, with its name.
 
         Parameters
@@ -198,11 +198,11 @@ class Prior:
             ):
                 raise ValueError("something is learned unless nothing is borrowed")
             tree["classes"] = {
-                name: Learned.from_tree(learned)
+                name: GridPrior.from_tree(learned)
                 for name, learned in tree["classes"].items()
             }
             for part in ("whole", "packs"):
-                tree[part] = Learned.from_tree(tree[part]) if tree[part] else None
+                tree[part] = GridPrior.from_tree(tree[part]) if tree[part] else None
             for count in ("seed", "items", "outside"):
                 tree[count] = int(tree[count])
             return cls(**tree)
@@ -288,7 +288,7 @@ def classes_of(
 
 def learned(
     samples: Sequence[Sample], seed: int, above: Floats | None = None
-) -> Learned:
+) -> GridPrior:
     """Estimates the prior of a catalogue, or of a class from that of the catalogue, `above`. It does not depend on the
     order of histories; of more than 3,000 so many are drawn at random."""
     order = sorted(
@@ -306,7 +306,7 @@ def learned(
         start, items = above, CLASS_ITEMS
     chances = estimated(chunks, start, items * start)
     gains = np.log10(marginal(chunks, chances) / marginal(chunks, FLAT))
-    return Learned.of(chances, len(samples), len(gains), float(gains.mean()))
+    return GridPrior.of(chances, len(samples), len(gains), float(gains.mean()))
 
 
 @judged("learn")
@@ -381,7 +381,7 @@ def learn(
     for sample, name in zip(samples, names):
         if name and not is_outside(sample):
             groups[name].append(sample)
-    by_class = dict[str, Learned]()
+    by_class = dict[str, GridPrior]()
     for name, group in sorted(groups.items()):
         by_class[name] = learned(group, seed, whole.chances)
     packs = [sample.packs for sample in samples if sample.pack > 1]

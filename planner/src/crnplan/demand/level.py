@@ -49,7 +49,7 @@ def smoothed_means(counts: Sequence[int]) -> Floats:
     return np.array([mean for mean, _ in smoothed([*counts, 0])])
 
 
-class Moves(NamedTuple):
+class BlockSums(NamedTuple):
     """How an item moved in blocks of 4 periods, the last one first: sums of the product of what came and what was
     smoothed, and of the square of the latter. Both are beside the mean before the block, and in units of it.
     """
@@ -58,7 +58,7 @@ class Moves(NamedTuple):
     squares: Floats
 
     @classmethod
-    def of(cls, counts: Sequence[int]) -> Moves:
+    def of(cls, counts: Sequence[int]) -> BlockSums:
         """Looks at the blocks of the second half of a record, of which those without demand before them count nothing.
         An item weighs the less the more its demand varies from period to period. A short record has no blocks.
         """
@@ -77,7 +77,7 @@ class Moves(NamedTuple):
         return cls(weight * smooth * (came - before) / unit, weight * smooth * smooth)
 
 
-def weight_of(items: Sequence[Moves]) -> float:
+def weight_of(items: Sequence[BlockSums]) -> float:
     """Returns the weight of the smoothed level of a class, from 0 to 1, shrunk by its error: 0 unless it is clearly above
     that, and for fewer than 10 items."""
     known = [item for item in items if len(item.squares)]

@@ -32,7 +32,7 @@ Effect = tuple[float, dict[str, Value]]  # its size, and the facts for its words
 
 
 @dataclass(frozen=True)
-class Check:
+class OrderTest:
     """A test of a history: its p value, the size of what it found, the facts of that, and what it would have seen.
 
     The size is the autocorrelation of neighbours; half of the mean's change over the record, as a share of the mean, of
@@ -49,7 +49,7 @@ class Check:
 
 
 @dataclass(frozen=True)
-class Facts:
+class TestedHistory:
     """What is checked: numbers, the seasons that they are many enough for, the number of the first period, and `every`
     (day, week or month, None without dates). The differences between parts of the seasons that are `taken` out are not
     in the numbers that are `left`, which keep the mean. `known` has the places of the numbers' periods, from 0, rising, if
@@ -151,7 +151,7 @@ def _change(before: Floats, after: Floats) -> float | None:
     return float(after.mean() / before.mean()) - 1 if before.mean() > 0 else None
 
 
-def tests_of(facts: Facts, in_full: bool = True) -> tuple[Check, ...]:
+def tests_of(facts: TestedHistory, in_full: bool = True) -> tuple[OrderTest, ...]:
     """Returns the tests of a history. It has none if it is short or all its numbers are equal.
 
     Only `in_full` are there tests if none warns, what each would have seen, and p values of those that don't warn; else
@@ -182,13 +182,13 @@ def tests_of(facts: Facts, in_full: bool = True) -> tuple[Check, ...]:
     }
     least = _least_seen(facts, orders.bounds(level), level) if in_full else {}
     return tuple(
-        Check(name, p_values.get(name, 1.0), *effects[name], least.get(name))
+        OrderTest(name, p_values.get(name, 1.0), *effects[name], least.get(name))
         for name in orders.names
     )
 
 
 def _least_seen(
-    facts: Facts, bounds: Mapping[str, float], level: float
+    facts: TestedHistory, bounds: Mapping[str, float], level: float
 ) -> dict[str, float]:
     """Returns what the tests of a history would have seen, but for a shift."""
     scores = tilted(Sample.of(facts.numbers))

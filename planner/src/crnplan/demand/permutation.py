@@ -145,7 +145,7 @@ def in_order(size: int) -> Places:
     return np.arange(size, dtype=np.uint16)[None]
 
 
-class Drawn:
+class Permutations:
     """Drawn orders of the places of so many periods, from the number of the first of them on. A history has at most
     65,536 periods; small numbers are read faster."""
 
@@ -165,7 +165,7 @@ class Drawn:
         return self.rows[start:end]
 
 
-drawn_orders = functools.lru_cache(KEPT)(Drawn)
+drawn_orders = functools.lru_cache(KEPT)(Permutations)
 
 
 class Orders:

@@ -22,7 +22,7 @@ from ..toml.documents import shown
 from .kept import LOOK, PLANNED, Begun, Desk
 from .language import ENGLISH, LANGUAGES, as_field, words_of
 from .safety import TOKEN, WHOLE_PAGE, Secret
-from .work import DONE, PLANNING, READING, Work
+from .work import DONE, PLANNING, READING, DeskWork
 
 Made = TypeVar("Made")
 FRONT = "front"  # of an application
@@ -42,7 +42,7 @@ class Front:
 
     def __init__(self, desk: Desk, secret: Secret, program: str | None = None) -> None:
         self.desk, self.secret, self.program = desk, secret, program
-        self.work: Work | None = None
+        self.work: DeskWork | None = None
         self.lock = threading.RLock()
         # Held while orders are computed or changed, and taken before the lock above.
         self.orders = threading.RLock()
@@ -58,7 +58,7 @@ class Front:
             asked = self._asked(begun)
             with self.desk.changing() as state:
                 state.begun, state.ended, state.said = begun, "", []
-            self.work = Work(asked, self.desk.folder.room(), self._end)
+            self.work = DeskWork(asked, self.desk.folder.room(), self._end)
 
     def _asked(self, begun: Begun) -> dict[str, Any]:
         """Returns what the process of some work is asked for."""
@@ -79,7 +79,7 @@ class Front:
             "program": self.program,
         }
 
-    def _end(self, work: Work) -> None:
+    def _end(self, work: DeskWork) -> None:
         """Keeps how work has ended."""
         with self.lock, contextlib.ExitStack() as stack:
             stack.callback(setattr, self, "work", None)

@@ -21,14 +21,14 @@ from ..show.item_page import item_facts
 from ..drawing.rendering import rendered
 from ..vocabulary import read_argument
 from .front import Front, command_of, front, page, whole_of
-from .kept import Override
+from .kept import DeskOverride
 from .results import listed
 
 pages = Blueprint("items", __name__)
 FIELDS = "s", "S", "lead", "fill"
 
 
-class Drawn(NamedTuple):
+class DrawnItem(NamedTuple):
     """What is decided for an item and its pictures, as parts of a page; or why there are none."""
 
     head: str = ""
@@ -36,26 +36,26 @@ class Drawn(NamedTuple):
     why: str = ""
 
 
-def drawn(own: Front, plan: str, name: str, is_asked: bool) -> Drawn | None:
+def drawn(own: Front, plan: str, name: str, is_asked: bool) -> DrawnItem | None:
     """Returns the parts of the page of an item, which are computed once and only if they are asked for; None if they are not
     computed yet, as that takes a second."""
     of = own.version(plan), name
     if not is_asked:
-        parts: Drawn | None = own.recalled("item", of)
+        parts: DrawnItem | None = own.recalled("item", of)
         return parts
 
-    def make() -> Drawn:
+    def make() -> DrawnItem:
         with own.reading(plan):
             facts = item_facts(own.plan(plan).item(name).words)
         head, figures = (
             Markup(rendered(f"item_{part}.html", facts)) for part in ("head", "figures")
         )
-        return Drawn(head, figures)
+        return DrawnItem(head, figures)
 
     try:
         return own.once("item", of, make)
     except CrnplanError as why:
-        return Drawn(why=str(why))
+        return DrawnItem(why=str(why))
 
 
 def levels_asked() -> tuple[int, int] | None:
@@ -129,11 +129,11 @@ def override() -> Redirect:
         raise Refused(f"{argument('reason')} is missing", "say why, for later")
     match form.get("way"):
         case "levels" if levels := levels_asked():
-            stated = Override(name, *levels, reason=reason)
+            stated = DeskOverride(name, *levels, reason=reason)
         case "stop":
-            stated = Override(name, is_stopped=True, reason=reason)
+            stated = DeskOverride(name, is_stopped=True, reason=reason)
         case "end":
-            stated = Override(name, reason=reason)
+            stated = DeskOverride(name, reason=reason)
         case _:
             raise Refused("nothing is set", "write s and S, or choose another way")
     with own.desk.changing() as state:

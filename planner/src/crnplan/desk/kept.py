@@ -64,7 +64,7 @@ class Dropped:
 
 
 @dataclass(frozen=True)
-class Override:
+class DeskOverride:
     """What a planner has set for an item: levels, not to order, or nothing any longer; and why."""
 
     item: str
@@ -141,7 +141,7 @@ class State:
     begun: Begun | None = None
     ended: str = ""
     said: list[str] = field(default_factory=list)
-    overrides: dict[str, Override] = field(default_factory=dict)
+    overrides: dict[str, DeskOverride] = field(default_factory=dict)
     agreed: str = ""
     day: str = ""
     quantities: dict[str, int] = field(default_factory=dict)

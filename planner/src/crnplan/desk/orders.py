@@ -34,7 +34,7 @@ class OldStock(Refused):
     """A stock that is older than the open orders, and of which nobody has said that it counts."""
 
 
-class Shown(NamedTuple):
+class ShownOrders(NamedTuple):
     """What the last plan says on a day: a sign of all that this depends on, the tables of the day, and the orders."""
 
     sign: str
@@ -87,7 +87,7 @@ def names_of_files(own: Front) -> str:
     return " ".join(file.name for file in files)
 
 
-def shown_on(own: Front, day: str) -> Shown:
+def shown_on(own: Front, day: str) -> ShownOrders:
     """Returns what the last plan says on a day. No orders are changed meanwhile."""
     desk = own.desk
     with own.orders:
@@ -97,7 +97,7 @@ def shown_on(own: Front, day: str) -> Shown:
         quantities = [*state.quantities.items()] if state.day == day else []
         sign = digest_of(own.version(""), day, state.changed, placed, quantities)
 
-        def made() -> Shown:
+        def made() -> ShownOrders:
             own.known.pop(ORDERS, None)  # Its tables are written anew.
             with desk.lock:
                 tables = {
@@ -105,7 +105,7 @@ def shown_on(own: Front, day: str) -> Shown:
                     "placed": desk.table(PLACED, HEADING, placed),
                     "quantities": desk.table(QUANTITIES, HEADING, quantities),
                 }
-            return Shown(sign, tables, last_plan(own).days.orders(tables, day))
+            return ShownOrders(sign, tables, last_plan(own).days.orders(tables, day))
 
         return own.once(ORDERS, sign, made)
 

@@ -12,7 +12,7 @@ from ..plan.catalogue import planned_folder
 from ..show.change_tables import change_lines
 from .front import PAGES, command_of, front, page, words
 from .kept import LAST_TEST, OVERRIDES, PLANNED, PLANS, Begun, Desk
-from .work import PLANNING, STOPPED, Work
+from .work import PLANNING, STOPPED, DeskWork
 
 pages = Blueprint("plans", __name__)
 
@@ -113,7 +113,7 @@ def go_on() -> Redirect:
     return redirect("/plan", 303)
 
 
-def shown_progress(work: Work) -> str:
+def shown_progress(work: DeskWork) -> str:
     """Returns how far work is, in words."""
     facts, own = work.progress, words()["all"]
     if not facts:

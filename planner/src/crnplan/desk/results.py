@@ -25,14 +25,14 @@ from ..show.catalogue_tables import (
     DECISION_COLUMNS,
     DECISIONS,
     REJECTS,
-    Decision,
+    ItemDecision,
     decided,
 )
 from ..drawing.rendering import rendered
 from ..show.verdicts import VERDICTS
 from ..store.digests import digest_of
 from ..store.files import IN_KEPT
-from ..table import Cell, Column, is_missing
+from ..table import TableCell, Column, is_missing
 from ..toml.documents import shown
 from .front import (
     PREPARED,
@@ -59,34 +59,34 @@ SEARCHED = "item", "description"
 ASKED = "plan", "words", *FILTERS, "sort", "falls"
 
 
-class Row(NamedTuple):
+class ResultRow(NamedTuple):
     """An item of the table: its cells, what sorts them, and by what it is filtered."""
 
     cells: Sequence[str]
-    values: Sequence[Cell]
+    values: Sequence[TableCell]
     traits: Mapping[str, Sequence[str]]
 
 
-class Listed(NamedTuple):
+class ListedPlan(NamedTuple):
     """What the page has of a plan: the first screen, the table, and by name how many items have what it is filtered by."""
 
     board: Markup
     columns: Sequence[ItemColumn]
-    rows: Sequence[Row]
+    rows: Sequence[ResultRow]
     choices: Mapping[str, Mapping[str, int]]
 
     @classmethod
-    def of(cls, board: str, columns: Any, rows: Any, choices: Any) -> Listed:
+    def of(cls, board: str, columns: Any, rows: Any, choices: Any) -> ListedPlan:
         """Returns what was kept as plain data."""
         return cls(
             Markup(board),
             [ItemColumn(*parts) for parts in columns],
-            [Row(*parts) for parts in rows],
+            [ResultRow(*parts) for parts in rows],
             choices,
         )
 
 
-def traits_of(decision: Decision) -> Mapping[str, Sequence[str]]:
+def traits_of(decision: ItemDecision) -> Mapping[str, Sequence[str]]:
     """Returns by what an item is filtered."""
     return {
         "class": [decision.item.category],
@@ -104,12 +104,12 @@ def headed(column: Column, units: Mapping[str, str]) -> ItemColumn:
     return own._replace(heading=f"{own.title}, {units[column.name]}")
 
 
-def made_list(planned: PlannedFolder) -> Listed:
+def made_list(planned: PlannedFolder) -> ListedPlan:
     """Looks once at all items of a plan for the page."""
     survey, traits = Survey(planned), list[Mapping[str, Sequence[str]]]()
     choices = {name: Counter[str]() for name in FILTERS}
 
-    def noted() -> Iterator[Decision]:
+    def noted() -> Iterator[ItemDecision]:
         for decision in decided(survey.seen(planned.answers())):
             traits.append(traits_of(decision))
             for name, values in traits[-1].items():
@@ -121,10 +121,10 @@ def made_list(planned: PlannedFolder) -> Listed:
     table = replace(table, rows=[*table.rows], decimals=planned.currency.digits)
     table = table.without_empty(FIGURES)
     _, *spelt = table.spelt(is_shown=True)
-    return Listed(
+    return ListedPlan(
         Markup(rendered("board.html", board_facts(planned, survey) | {"past": past})),
         [headed(column, table.units) for column in table.columns],
-        [Row(*parts) for parts in zip(spelt, table.rows, traits)],
+        [ResultRow(*parts) for parts in zip(spelt, table.rows, traits)],
         choices,
     )
 
@@ -136,26 +136,26 @@ def sign_of(path: Path) -> str:
     return digest_of(path.name, state_of(path), code)
 
 
-def keep_list(desk: Desk, sign: str, found: Listed) -> None:
+def keep_list(desk: Desk, sign: str, found: ListedPlan) -> None:
     """Keeps what the page has of a plan, in place of another one."""
     text = json.dumps([sign, *found], ensure_ascii=False)
     with desk.lock:
         desk.folder.write(LIST, text)
 
 
-def kept_list(desk: Desk, sign: str) -> Listed | None:
+def kept_list(desk: Desk, sign: str) -> ListedPlan | None:
     """Returns what is kept by a sign; None if that of another plan, or of another time, is."""
     with contextlib.suppress(OSError, ValueError, TypeError):
         kept, *parts = json.loads((desk.path / LIST).read_text("utf-8"))
-        return Listed.of(*parts) if kept == sign else None
+        return ListedPlan.of(*parts) if kept == sign else None
     return None
 
 
-def listed(own: Front, name: str) -> Listed:
+def listed(own: Front, name: str) -> ListedPlan:
     """Returns what the page has of a plan. It is computed once; that of the last plan is kept for when the desk is opened
     again."""
 
-    def make() -> Listed:
+    def make() -> ListedPlan:
         with own.held(name) as path:
             sign = sign_of(path)
             found = kept_list(own.desk, sign)
@@ -180,10 +180,10 @@ def check(name: str, value: str, choices: Collection[str]) -> None:
         raise Refused(what, "choose one that is")
 
 
-def in_order(rows: Sequence[Row], place: int, falls: bool) -> list[Row]:
+def in_order(rows: Sequence[ResultRow], place: int, falls: bool) -> list[ResultRow]:
     """Returns rows sorted by a column; those without a value in it come last."""
 
-    def value_of(row: Row) -> Any:
+    def value_of(row: ResultRow) -> Any:
         value = row.values[place]
         return None if is_missing(value) or value == "" else value
 
@@ -192,7 +192,7 @@ def in_order(rows: Sequence[Row], place: int, falls: bool) -> list[Row]:
     return [*sorted(known, key=value_of, reverse=falls), *empty]
 
 
-def chosen_rows(found: Listed, asked: Mapping[str, str]) -> list[Row]:
+def chosen_rows(found: ListedPlan, asked: Mapping[str, str]) -> list[ResultRow]:
     """Returns the rows that a query asks for, in its order. Raises Refused for a filter or a column that there is not."""
     words = asked["words"].casefold()
     names = [column.name for column in found.columns]

@@ -85,7 +85,7 @@ def cookie_name(head: Head) -> str:
     return f"{COOKIE}-{head.host.rpartition(':')[2]}"
 
 
-class Judge:
+class RequestJudge:
     """Says by the heads of requests who asks the desk."""
 
     def __init__(self, secret: Secret, hosts: Set[str]) -> None:
@@ -112,7 +112,7 @@ class JudgedParser(HTTPRequestParser):  # type: ignore[misc]
 
     body_rcv: Any
 
-    def __init__(self, judge: Judge, settings: Any) -> None:
+    def __init__(self, judge: RequestJudge, settings: Any) -> None:
         super().__init__(settings)
         self.judge = judge
 
@@ -134,14 +134,14 @@ class JudgedParser(HTTPRequestParser):  # type: ignore[misc]
         return answer.status, answer.headers.to_wsgi_list(), answer.get_data()
 
 
-def channels_of(judge: Judge) -> type[HTTPChannel]:
+def channels_of(judge: RequestJudge) -> type[HTTPChannel]:
     """Returns the class of connections that take bodies as a judge says."""
     return type(
         "Channel", (HTTPChannel,), {"parser_class": partial(JudgedParser, judge)}
     )
 
 
-def guard(app: Flask, judge: Judge) -> None:
+def guard(app: Flask, judge: RequestJudge) -> None:
     """Has an application answer only who has the secret."""
     app.request_class = BoundedRequest
 

@@ -28,7 +28,7 @@ from . import files, items, orders, past, plans, results, settings
 from .front import FRONT, Front, page
 from .kept import DESK, Desk
 from .language import as_field
-from .safety import MOST_UPLOAD, Judge, Secret, channels_of, guard
+from .safety import MOST_UPLOAD, RequestJudge, Secret, channels_of, guard
 
 LOCAL = "127.0.0.1"
 # A browser keeps some six connections. One that sends nothing for so long is closed.
@@ -75,7 +75,7 @@ def application(front: Front, hosts: set[str]) -> Flask:
     app = Flask(__name__, static_folder=None, template_folder=None)
     app.extensions[FRONT] = front
     setattr(app, "wsgi_app", spelling(app.wsgi_app))
-    guard(app, Judge(front.secret, hosts))
+    guard(app, RequestJudge(front.secret, hosts))
     add_looks(app)
     for module in MODULES:
         app.register_blueprint(module.pages)
@@ -177,7 +177,7 @@ def server_of(front: Front, port: int) -> tuple[Any, str]:
         max_request_body_size=MOST_UPLOAD,
         ident=None,
     )
-    server.channel_class = channels_of(Judge(front.secret, hosts))
+    server.channel_class = channels_of(RequestJudge(front.secret, hosts))
     hosts |= {f"{name}:{server.effective_port}" for name in (LOCAL, "localhost")}
     return server, f"http://{LOCAL}:{server.effective_port}/enter/{front.secret.text}"
 

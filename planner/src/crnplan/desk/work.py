@@ -34,7 +34,7 @@ DONE, REFUSED, STOPPED = "done", "refused", "stopped"
 SHOWN_SECONDS = 0.3  # from one report of the progress to the next
 
 
-class Work:
+class DeskWork:
     """Work that is under way in a process of its own: how far it is, how it has ended, and what is to be said of that."""
 
     def __init__(self, asked: dict[str, Any], room: Path, end: Any) -> None:
@@ -99,7 +99,7 @@ def told(**facts: object) -> None:
     print(json.dumps(facts), flush=True)
 
 
-class Shown:
+class ShownProgress:
     """Says to the desk how much is done, at most some times a second."""
 
     def __init__(self) -> None:
@@ -185,7 +185,7 @@ def main() -> None:
     """Does the work that the first line of standard input asks for, and says on standard output how it goes and ends."""
     # Who has started the desk may ignore interrupts, by which it stops this process.
     signal.signal(signal.SIGINT, signal.default_int_handler)
-    with heeding_interrupts(), shown_by(Shown()), spelt(as_field):
+    with heeding_interrupts(), shown_by(ShownProgress()), spelt(as_field):
         try:
             told()
             asked = json.loads(sys.stdin.readline())

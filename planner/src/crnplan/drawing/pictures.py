@@ -9,7 +9,7 @@ from pathlib import Path
 from typing import NamedTuple
 
 from ..store.files import named_bytes
-from .plots import OF_CHOSEN, UNITS, Line, Mark, Plot, Scale
+from .plots import OF_CHOSEN, UNITS, Line, AxisMark, Plot, Scale
 from .rendering import rendered, templates
 
 # In pixels: of a picture and of a plot; of a line of a legend, or a row; above all plots; above and below each.
@@ -30,9 +30,9 @@ class Picture:
     @classmethod
     def of(cls, plots: Sequence[Plot], title: str = "") -> Picture:
         """Draws plots one below another, with the title of the first one or another."""
-        parts, top = list[Part](), HEAD
+        parts, top = list[PicturePart](), HEAD
         for plot in plots:
-            parts.append(Part(plot, top, plot.title if title else ""))
+            parts.append(PicturePart(plot, top, plot.title if title else ""))
             top = parts[-1].bottom
         title = title or plots[0].title
         facts = {"title": title, "parts": parts, "width": WIDTH, "height": top}
@@ -47,7 +47,7 @@ class Picture:
             file.write(self.svg.encode("utf-8"))
 
 
-class Part(NamedTuple):
+class PicturePart(NamedTuple):
     """A plot of a picture, which begins so many pixels below its upper edge, perhaps with a title of its own."""
 
     plot: Plot
@@ -95,7 +95,7 @@ def style() -> str:
     return re.sub(r"var\(--(\w+)\)", lambda name: colours[name[1]], "\n".join(both))
 
 
-def rows_of(names: Iterable[str]) -> list[Mark]:
+def rows_of(names: Iterable[str]) -> list[AxisMark]:
     """Returns the middles of rows, the first at the top, with their names."""
     shown = [
         f"{name[:MOST_LETTERS]}…" if name[MOST_LETTERS:] else name for name in names

@@ -23,7 +23,7 @@ BAR = 0.85  # of the width of a period
 OF_TODAY, OF_CHOSEN = "of-today", "of-chosen"
 # The classes of lines of a mean, and of what is seldom exceeded.
 MEAN, HIGH = "of-mean", "of-high"
-Mark = tuple[float, str, str]  # its place, its text and its class
+AxisMark = tuple[float, str, str]  # its place, its text and its class
 
 
 def round_steps(least: float, is_whole: bool) -> list[float]:
@@ -102,7 +102,7 @@ class Scale(NamedTuple):
         return tick(value) + self.sign
 
     @property
-    def heights(self) -> list[Mark]:
+    def heights(self) -> list[AxisMark]:
         """Returns the places at an axis, their texts and the class of their lines."""
         return [
             (self.at(value), self.word(value), "gridline" if value else "zero")
@@ -110,7 +110,7 @@ class Scale(NamedTuple):
         ]
 
     @property
-    def marks(self) -> list[Mark]:
+    def marks(self) -> list[AxisMark]:
         """Returns the places at an axis below a narrow picture, their texts and their class: that of inner ones, which
         a narrow page leaves out, if there is no room for all."""
         words = [tick(value) for value in self.ticks]
@@ -172,8 +172,8 @@ class Plot(NamedTuple):
 
     title: str
     description: str
-    heights: Sequence[Mark]
-    marks: Sequence[Mark]
+    heights: Sequence[AxisMark]
+    marks: Sequence[AxisMark]
     across: str
     lines: Sequence[Line]
     bars: str = ""
@@ -182,7 +182,7 @@ class Plot(NamedTuple):
     points: Sequence[NamedPoint] = ()
 
 
-def marks_of(names: Sequence[str]) -> list[Mark]:
+def marks_of(names: Sequence[str]) -> list[AxisMark]:
     """Returns some names at an axis: their places, and their class. A narrow page has no room for the inner ones."""
     last = len(names) - 1
     marks = []

@@ -18,7 +18,7 @@ from ..remarks import Remark, Value
 from ..store.stored import Store, sealed
 from ..store.work import Known
 from .answer import Answer
-from .changes import Change, Pair, change_of
+from .changes import Change, PlannedTwice, change_of
 from .how import LEARNED, Settings
 from .question import Levels
 from .seasons import coming_year
@@ -117,7 +117,7 @@ def common_changes(earlier: Planned, planned: Planned) -> Iterator[Remark]:
         yield Remark("other program")
 
 
-def pairs_of(earlier: PlannedFolder, now: PlannedFolder) -> Iterator[Pair]:
+def pairs_of(earlier: PlannedFolder, now: PlannedFolder) -> Iterator[PlannedTwice]:
     """Yields the items of both plans in order of their names, with all their periods."""
     left = {
         reject.item: reject.remark
@@ -129,7 +129,7 @@ def pairs_of(earlier: PlannedFolder, now: PlannedFolder) -> Iterator[Pair]:
     ):
         answer = now.store.answer(name)
         fault = answer if isinstance(answer, Remark) else left.get(name)
-        yield Pair(decided(earlier, name), decided(now, name), fault)
+        yield PlannedTwice(decided(earlier, name), decided(now, name), fault)
 
 
 def decided(plan: PlannedFolder, name: str) -> tuple[Item, Answer] | None:

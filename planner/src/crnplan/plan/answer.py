@@ -115,7 +115,7 @@ class Laws:
 
 
 @dataclass(frozen=True)
-class Run:
+class CheckRun:
     """The run of crnsim beside the figures of theory, today's policy and the chosen one on the same random numbers.
 
     Exact: totals in the program's units, of which `scale` are one of money, with the rates of a box and the initial
@@ -179,7 +179,7 @@ class Answer:
     correction: Correction | None
     law: LawFacts
     laws: Laws
-    run: Run | None
+    run: CheckRun | None
     remarks: tuple[Remark, ...]
     override: Figures | None = None
     share: Share | None = None

@@ -6,7 +6,7 @@ from collections.abc import Iterator, Mapping, Sequence
 from dataclasses import replace
 from typing import Any, NamedTuple
 
-from ..read.bounds import Bounds
+from ..read.bounds import OrderBounds
 from ..remarks import Remark, Value
 from ..theory.feasible import ALL
 from .answer import BOUNDED
@@ -56,7 +56,7 @@ def bounds_of(question: Question, choice: Choice) -> Iterator[Bound]:
             yield Bound(name, best.levels, question.whole_cost(plain) - cost)
 
 
-def shortest(bounds: Bounds) -> Mapping[str, Value]:
+def shortest(bounds: OrderBounds) -> Mapping[str, Value]:
     """Returns the name of the bound of S that is stated, of two the shorter one, with its periods, as facts."""
     stated = (bounds.coverage, COVERAGE), (bounds.shelf_life, SHELF_LIFE)
     periods, name = min((span, name) for span, name in stated if span is not None)

@@ -11,7 +11,7 @@ from fractions import Fraction
 
 from ..formats import MOST_ITEMS
 from ..law import Law
-from ..read.bounds import Bounds
+from ..read.bounds import OrderBounds
 from ..theory.feasible import Feasible
 
 # The periods of demand that S - s covers at most, if no coverage is stated: two years.
@@ -20,7 +20,7 @@ COVERAGES = COVERAGE, ORDER_COVERAGE = "coverage", "order_coverage"
 SHELF_LIFE = "shelf_life"
 
 
-def feasible_of(bounds: Bounds, box: int, demand: Law) -> Feasible:
+def feasible_of(bounds: OrderBounds, box: int, demand: Law) -> Feasible:
     """Returns the policies within bounds, in boxes of so many items, as the demand of a period is.
 
     S is never held below what the least s and the smallest order need, nor S - s below what that order needs. A pack

@@ -335,7 +335,7 @@ def take_prior(answers: Store[Answer], earlier: PlannedFolder, again: bool) -> N
 
 
 @dataclass(frozen=True)
-class Run:
+class PlanningRun:
     """A run that plans a catalogue: its folder, the items with their answers, which come once and in order, how many of
     these were planned now or before, what was learned, now or in an earlier run, and the earlier plan.
     """
@@ -401,7 +401,7 @@ def corrected(
 @contextlib.contextmanager
 def planning(
     folder: Folder, settings: Settings, means: Means, after: Path | None, again: bool
-) -> Iterator[Run]:
+) -> Iterator[PlanningRun]:
     """Plans the catalogue that was read into a folder: see `plan`. An item that is not planned yet is planned when its
     answer is asked for."""
     path = program_for(means.program, means.cluster)
@@ -441,4 +441,4 @@ def planning(
         )
         opened = PlannedFolder(folder.path, read, answers, planned)
         with contextlib.closing(answered(opened, work, means, path)) as decided:
-            yield Run(opened, decided, work, learned, earlier)
+            yield PlanningRun(opened, decided, work, learned, earlier)

@@ -11,7 +11,7 @@ from ..law import Law
 from ..remarks import Remark, Value
 
 
-class Change(NamedTuple):
+class LawChange(NamedTuple):
     """A change of a law: its words, the law with what that is called, and the tenths of demand."""
 
     words: str
@@ -21,9 +21,9 @@ class Change(NamedTuple):
 
 
 CHANGES = (
-    Change("demand 10% up", "demand", "demand", 11),
-    Change("demand 10% down", "demand", "demand", 9),
-    Change("lead time plus 1", "lead", "lead time"),
+    LawChange("demand 10% up", "demand", "demand", 11),
+    LawChange("demand 10% down", "demand", "demand", 9),
+    LawChange("lead time plus 1", "lead", "lead time"),
 )
 
 
@@ -53,7 +53,7 @@ def changed_demand(demand: Law, tenths: int) -> Law:
 
 def law_cases(
     demand: Law, lead: Law, notes: list[Remark]
-) -> Iterator[tuple[Change, dict[str, Law]]]:
+) -> Iterator[tuple[LawChange, dict[str, Law]]]:
     """Yields each change of a law with that law by its name. What cannot be done exactly, or at all, goes to the notes."""
     for change in CHANGES:
         if change.key == "lead":

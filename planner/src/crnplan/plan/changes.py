@@ -13,14 +13,14 @@ from typing import NamedTuple
 
 from ..demand.fitting import fit_lead
 from ..demand.seasons import CALENDAR
-from ..read.bounds import Bounds
+from ..read.bounds import OrderBounds
 from ..policies import Levels
 from ..read.item import Item
 from ..remarks import Remark, Value
 from .answer import Answer, Figures, LawFacts
 from .backtest.outcomes import Happened, Outcome
 from .backtest.estimates import Estimate
-from .backtest.sums import Group
+from .backtest.sums import TestGroup
 from .how import Settings
 
 # What an item's policy is beside the earlier one: the same, moved, the same though another costs less, new, or gone.
@@ -35,9 +35,9 @@ COLUMNS = (
         )
     }
     | {"class": "group"}
-    | {bound.name: f"bounds.{bound.name}" for bound in dataclasses.fields(Bounds)}
+    | {bound.name: f"bounds.{bound.name}" for bound in dataclasses.fields(OrderBounds)}
 )
-Planned = tuple[Item, Answer]
+ItemAnswer = tuple[Item, Answer]
 
 
 @dataclass(frozen=True)
@@ -84,12 +84,12 @@ class Change:
         return self.before.cost - best.cost + self.price * met
 
 
-class Pair(NamedTuple):
+class PlannedTwice(NamedTuple):
     """An item with its answer in the earlier plan and in this one, of all its periods. If this one has none, `left`
     says why."""
 
-    old: Planned | None
-    new: Planned | None
+    old: ItemAnswer | None
+    new: ItemAnswer | None
     left: Remark | None
 
 
@@ -149,7 +149,7 @@ def masters_of(old: Item, new: Item, earlier: tuple[int, int]) -> Iterator[Remar
 
 
 def reasons_of(
-    old: Planned, new: Planned, stop: int, common: Sequence[Remark]
+    old: ItemAnswer, new: ItemAnswer, stop: int, common: Sequence[Remark]
 ) -> Iterator[Remark]:
     """Yields what may have moved the policy of an item, `common` being what all items have."""
     (old_item, old_answer), (new_item, new_answer) = old, new
@@ -167,7 +167,7 @@ def reasons_of(
     yield from common
 
 
-def since_of(old: Planned, now: Item, settings: Settings, stop: int) -> Since | None:
+def since_of(old: ItemAnswer, now: Item, settings: Settings, stop: int) -> Since | None:
     """Returns what the policy of the earlier plan came to in the periods from `stop` on, by the settings of that plan;
     None if there are no such periods. It is in use from the first period of the record on: in each month of a season with
     the levels of that month.
@@ -195,7 +195,7 @@ def since_of(old: Planned, now: Item, settings: Settings, stop: int) -> Since | 
 
 
 def change_of(
-    pair: Pair, settings: Settings, stop: int, common: Sequence[Remark]
+    pair: PlannedTwice, settings: Settings, stop: int, common: Sequence[Remark]
 ) -> Change:
     """Returns what has changed of an item. `settings` are those of the earlier plan, whose record ends before period
     `stop`, and `common` is what has changed for all items."""
@@ -249,7 +249,7 @@ class SinceSums:
         known = [since for since in known if since.mean > 0]
         if not any(any(since.demands) for since in known):
             return None
-        group = Group(known)
+        group = TestGroup(known)
         return cls(
             len(known),
             max(len(since.demands) for since in known),

@@ -13,14 +13,14 @@ from collections.abc import Mapping
 import numpy as np
 
 from ..decide.long_run import LongRunReport
-from ..decide.verdicts import Estimate, ends_of, far_from, t_quantile
+from ..decide.verdicts import RunEstimate, ends_of, far_from, t_quantile
 from ..errors import Failed
 from ..formats import MOST_ITEMS, MOST_REPLICATIONS
 from ..remarks import Remark
 from ..policies import Policy
 from ..changing import key_words
 from ..runs import Report, Scenario
-from .answer import CHOSEN, Figures, Run
+from .answer import CHOSEN, Figures, CheckRun
 from .question import Levels, Question, Unplanned
 
 # A figure of a run is looked at again, by a larger run under another key, if chance alone puts so few so far from
@@ -45,7 +45,7 @@ def scenario_of(question: Question, levels: Levels) -> Scenario:
     return scenario.with_policies([*scenario.policies, Policy(CHOSEN, *levels)])
 
 
-class Sample:
+class RunSample:
     """What a run of a question's scenario says of the long run. Raises Refused if the bias of the start is not known.
 
     `policies` are the estimates in money, the first one being the base. `is_exact` says whether theory and the bias of
@@ -58,7 +58,7 @@ class Sample:
         known = LongRunReport.of(
             report.rows, scenario, scenario.replications, question.theory
         )
-        self.policies = list[Estimate]()
+        self.policies = list[RunEstimate]()
         for estimate in known.estimates:
             self.policies.append(estimate.in_money(question.scale))
         self.is_exact = known.is_exact
@@ -106,7 +106,7 @@ def rare_cost(question: Question, levels: Levels, scenario: Scenario) -> float:
 def check_run(
     question: Question,
     report: Report,
-    sample: Sample,
+    sample: RunSample,
     figures: Mapping[str, Figures],
     program: str,
 ) -> None:
@@ -122,7 +122,7 @@ def check_run(
     larger = dataclasses.replace(
         scenario, key=tuple(key), replications=MOST_REPLICATIONS
     )
-    again = Sample(question, larger.run(program=program))
+    again = RunSample(question, larger.run(program=program))
     rare = {
         row.policy: rare_cost(question, (row.s, row.S), larger) for row in report.rows
     }
@@ -139,22 +139,22 @@ def checked_run(
     levels: Levels,
     figures: Mapping[str, Figures],
     program: str,
-) -> tuple[Run, Sample] | None:
+) -> tuple[CheckRun, RunSample] | None:
     """Returns the run of today's policy and of the chosen one with some levels; None if crnsim can't run them. Raises
     Refused if the bias of the start is not known, Disagreement and ProgramError."""
     if question.item.review > 1:
         return None
     report = scenario_of(question, levels).run(program=program)
-    sample = Sample(question, report)
+    sample = RunSample(question, report)
     check_run(question, report, sample, figures, program)
     return run_of(question, report, sample), sample
 
 
-def run_of(question: Question, report: Report, sample: Sample) -> Run:
+def run_of(question: Question, report: Report, sample: RunSample) -> CheckRun:
     """Returns the run of today's policy, if there is one, and of the last one of a report, which may be the same."""
     rows, scenario, costs = report.rows, report.scenario, report.scenario.costs
     base, chosen = sample.policies[0], sample.policies[-1]
-    run = Run(
+    run = CheckRun(
         " ".join(scenario.key),
         scenario.periods,
         scenario.replications,

@@ -26,7 +26,7 @@ from .question import Levels, NoPolicy, Question, Terms
 LAWS = 100  # that are drawn
 CLOSE = 1e-9  # Costs whose ratio differs from 1 by less are equal but for rounding.
 # Gaps of policies, and rows with their levels, stock, unmet demand and orders.
-Policies = tuple[Whole, Floats]
+PricedPolicies = tuple[Whole, Floats]
 
 
 @dataclass(frozen=True)
@@ -90,7 +90,7 @@ def by_prices(
     prices: Sequence[float],
     orders: Sequence[float] | float = 0.0,
     stock: Sequence[float] | float = 0.0,
-) -> Policies:
+) -> PricedPolicies:
     """Returns the best policies of a theory of an item for prices of a box that is not met at once, in money, if each
     order and each box of stock perhaps costs more than its setup and holding: their gaps; and their levels, stock, unmet
     demand and orders, in boxes. There is none if no policy is feasible.

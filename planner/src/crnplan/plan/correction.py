@@ -18,7 +18,7 @@ from typing import Any, NamedTuple
 import numpy as np
 
 from ..chances import Floats
-from ..crnsim.periods import Past, Period, Rates, periods_of
+from ..crnsim.periods import Realization, Period, Rates, periods_of
 from ..demand.learning import Prior
 from ..errors import Refused, argument
 from ..store.files import IN_KEPT, Folder
@@ -59,7 +59,7 @@ def levels_of(theory: LongRun) -> list[Levels]:
 
 
 def counted_by(
-    policies: Sequence[Levels], past: Past, start: float, figure: Figure
+    policies: Sequence[Levels], past: Realization, start: float, figure: Figure
 ) -> Floats:
     """Returns a figure of each period under policies: a row for each policy and a column for each period. They begin
     with nothing on order, and with a stock that is a share of the way from s to S.
@@ -107,7 +107,9 @@ def in_blocks(
         question = question_of(item.without(range(first, end)), settings, prior)
         box, random = question.item.box, np.random.default_rng(question.seed("trial"))
         leads = question.lead.draws(random, 2 * periods)
-        past = Past(2 * item.counts, 2 * returns, leads, item.review, periods, pack)
+        past = Realization(
+            2 * item.counts, 2 * returns, leads, item.review, periods, pack
+        )
         policies = [(s * box, S * box) for s, S in planned(question)]
         by_period = counted_by(policies, past, float(random.random()), figure)
         sums = sums + by_period[:, periods + first : periods + end].sum(axis=1)
@@ -150,7 +152,7 @@ def cost_trial_of(item: Item, settings: Settings, prior: Prior) -> CostTrial:
     )
 
 
-class Kind(NamedTuple):
+class TrialKind(NamedTuple):
     """What is tried on the past: of items with a fact, by a function, whose answers are kept in a store."""
 
     fact: str
@@ -159,11 +161,11 @@ class Kind(NamedTuple):
     store: str
 
 
-OF_FILLS = Kind("fill", trial_of, Trial, TRIALS)
-OF_COSTS = Kind("backlog", cost_trial_of, CostTrial, COST_TRIALS)
+OF_FILLS = TrialKind("fill", trial_of, Trial, TRIALS)
+OF_COSTS = TrialKind("backlog", cost_trial_of, CostTrial, COST_TRIALS)
 
 
-def tried_names(read: Catalogued, kind: Kind = OF_FILLS) -> list[str]:
+def tried_names(read: Catalogued, kind: TrialKind = OF_FILLS) -> list[str]:
     """Returns in order the names of the items with a past that goes on and a fact, of at most 1,000 with the least digests,
     which is as good as at random. One that has ended would count its end as what plans of all others have missed.
     """
@@ -180,7 +182,7 @@ def tried_on(
     settings: Settings,
     prior: Prior,
     means: Means,
-    kind: Kind = OF_FILLS,
+    kind: TrialKind = OF_FILLS,
     part: str = "",
 ) -> list[Any]:
     """Returns the trials of items, of which those that are kept in a store of the folder are not made again. `part` says

@@ -21,7 +21,7 @@ BITS = 64  # of a random number
 Entry = TypeVar("Entry", bound=tuple[Any, ...])
 
 
-class Drawn(NamedTuple):
+class DrawnItems(NamedTuple):
     """The items that are `taken` for certain, and others that are drawn by chance, each with that chance."""
 
     taken: frozenset[str]
@@ -54,7 +54,7 @@ class Draws:
         uniform = (number_of(name, BITS) + 1) / 2.0**BITS
         _keep(self._first, (-uniform / size, name, size), 2 * self._most)
 
-    def drawn(self, total: float) -> Drawn:
+    def drawn(self, total: float) -> DrawnItems:
         """Returns the items that are taken and drawn, of all whose sizes have this sum.
 
         Greatest first, items are taken for certain until they carry `SHARE` of all, but no more than may be of
@@ -73,8 +73,8 @@ class Draws:
             if name not in certain and len(chances) < count:
                 chances[name] = min(1.0, count * size / left) if left > 0 else 1.0
         if len(chances) < count:  # All of the others are there.
-            return Drawn(certain.union(chances), {})
-        return Drawn(certain, chances)
+            return DrawnItems(certain.union(chances), {})
+        return DrawnItems(certain, chances)
 
 
 def _keep(heap: list[Entry], entry: Entry, most: int) -> None:
@@ -85,7 +85,7 @@ def _keep(heap: list[Entry], entry: Entry, most: int) -> None:
         heapq.heapreplace(heap, entry)
 
 
-class Estimate(NamedTuple):
+class EstimatedSum(NamedTuple):
     """A figure of all items with its standard error, which is infinite if too little is known."""
 
     value: float
@@ -95,11 +95,13 @@ class Estimate(NamedTuple):
         """Returns whether its standard error is at most a tenth of it, or `least`."""
         return self.error <= max(abs(self.value) / 10, least)
 
-    def plus(self, amount: float) -> Estimate:
+    def plus(self, amount: float) -> EstimatedSum:
         return self._replace(value=self.value + amount)
 
 
-def estimated(parts: Floats, sizes: Floats, chances: Floats, total: float) -> Estimate:
+def estimated(
+    parts: Floats, sizes: Floats, chances: Floats, total: float
+) -> EstimatedSum:
     """Returns the sum of a figure over items that were not taken for certain, from its parts of those that were drawn.
 
     It follows the sum of their sizes, which is known for all of these items: `total`. `parts`, `sizes` and `chances` are
@@ -107,11 +109,11 @@ def estimated(parts: Floats, sizes: Floats, chances: Floats, total: float) -> Es
     """
     count = len(parts)
     if total <= 0:
-        return Estimate(0.0)
+        return EstimatedSum(0.0)
     known = float((sizes / chances).sum()) if count else 0.0
     if count < 2 or known <= 0:
-        return Estimate(0.0, math.inf)
+        return EstimatedSum(0.0, math.inf)
     ratio = float((parts / chances).sum()) / known
     rest = (parts - ratio * sizes) / chances * (total / known)
     variance = count / (count - 1) * float(((1 - chances) * rest**2).sum())
-    return Estimate(ratio * total, math.sqrt(variance))
+    return EstimatedSum(ratio * total, math.sqrt(variance))

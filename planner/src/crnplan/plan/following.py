@@ -7,7 +7,7 @@ from collections.abc import Iterable, Mapping
 from dataclasses import dataclass
 
 from ..demand.fitted import FittedLaw
-from ..demand.level import Moves, factor_of, weight_of
+from ..demand.level import BlockSums, factor_of, weight_of
 from ..formats import MOST_DEMAND
 from ..law import Law
 from ..read.item import NEW, Item
@@ -44,9 +44,9 @@ class Following:
     @classmethod
     def of(cls, items: Iterable[Item]) -> Following:
         """Learns the weights of the classes of items, which are without their seasons."""
-        groups = defaultdict[str, list[Moves]](list)
+        groups = defaultdict[str, list[BlockSums]](list)
         for item in items:
-            groups[item.group].append(Moves.of(item.known.counts))
+            groups[item.group].append(BlockSums.of(item.known.counts))
         weights = {name: weight_of(groups[name]) for name in sorted(groups)}
         return cls({name: weight for name, weight in weights.items() if weight})
 

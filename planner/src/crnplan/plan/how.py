@@ -16,7 +16,7 @@ from ..errors import Refused, argument
 from ..formats import MOST_ITEMS, MOST_PERIODS, MOST_REPLICATIONS, MOST_WEIGHT
 from ..money import whole_in
 from ..read.amounts import share_of
-from ..read.bounds import Bounds
+from ..read.bounds import OrderBounds
 from ..read.defaults import SHARE, shares_of
 from ..read.item import BORROW, PLANNED, WEIGHED, Item
 from ..store.digests import number_of, sha256
@@ -241,7 +241,7 @@ class Settings(Vocabulary):
         del settings["least_gain"]
         return json.dumps([VERSION, program, learned, settings])
 
-    def bounds_of(self, item: Item) -> Bounds:
+    def bounds_of(self, item: Item) -> OrderBounds:
         """Returns the bounds of an item: those of its masters, else those of the settings.
 
         :meta private:

@@ -12,7 +12,7 @@ from typing import NamedTuple
 from ..crnsim.periods import Period
 from ..crnsim.trajectory import trajectories
 from ..decide.doubt import Doubt
-from ..decide.verdicts import Compared, Estimate, ends_of, t_quantile, verdict_of
+from ..decide.verdicts import Compared, RunEstimate, ends_of, t_quantile, verdict_of
 from ..demand.checks import largest_periods, largest_places
 from ..demand.fitted import FittedLaw
 from ..errors import Refused
@@ -23,10 +23,10 @@ from ..runs import Report, Scenario
 from ..theory.lattice import NoTheory
 from ..theory.long_run import Candidate, LongRun
 from ..theory.many_laws import CONFIDENCE, Promises, figures_of_laws
-from ..theory.suggestions import FILLS, Chosen, add_fills, chosen_policies
+from ..theory.suggestions import FILLS, SuggestedPolicies, add_fills, chosen_policies
 from ..words import sentence
 from .answer import ALONE, CHOSEN, THEORY, TODAY, Answer, Figures
-from .checked_run import Sample
+from .checked_run import RunSample
 from .choice import LAWS, allowed_by, choice_of
 from .one import plan_one
 from .question import Levels, Question, question_of, terms_of
@@ -35,7 +35,7 @@ from .what_ifs import Moves, moves_of
 MOST_PERIODS = 104  # of a trajectory
 
 
-class Shown(NamedTuple):
+class ShownPolicy(NamedTuple):
     """A policy beside the base in the long run, in money of a period: today's policy, or else the chosen one.
 
     `cost` and `difference`, which is the cost less the base's, are theory's where that is exact, else the run's. `run` has
@@ -152,7 +152,7 @@ class Depth:
         )
 
     @cached_property
-    def suggested(self) -> Chosen:
+    def suggested(self) -> SuggestedPolicies:
         """Returns further policies with the reasons for each: those that keep fill rates, by the law of the item and
         under most of the allowed ones, and with a backlog cost the neighbours of the best.
         """
@@ -161,7 +161,7 @@ class Depth:
         if question.has_backlog and question.item.wanted is None:
             best = Candidate(theory.figures(*levels).cost, *levels)
             return chosen_policies(scenario, theory, best, self.promises)
-        chosen = Chosen(scenario)
+        chosen = SuggestedPolicies(scenario)
         add_fills(chosen, theory, self.promises)
         return chosen
 
@@ -202,7 +202,7 @@ class Depth:
             self.policies
         )
 
-    def _sampled(self, sampled: Estimate) -> Estimate:
+    def _sampled(self, sampled: RunEstimate) -> RunEstimate:
         """Returns a policy of the run. The answer's own policies are as there: theory counts the start on a coarser
         lattice if another policy has a wide gap."""
         run = self.run
@@ -215,12 +215,12 @@ class Depth:
         return sampled
 
     @cached_property
-    def compared(self) -> list[Shown]:
+    def compared(self) -> list[ShownPolicy]:
         """Returns all policies, the cheapest first."""
-        settings, rows = self.question.settings, list[Shown]()
+        settings, rows = self.question.settings, list[ShownPolicy]()
         base = self.answer.today or self.answer.chosen
         errors = t_quantile(1 - settings.level, settings.replications - 1)
-        runs = map(self._sampled, Sample(self.question, self.report).policies)
+        runs = map(self._sampled, RunSample(self.question, self.report).policies)
         for (policy, reasons), run in zip(self.policies.items(), runs):
             figures = self.question.figures((policy.s, policy.S))
             own_low, own_high = ends_of(run.cost, run.own_error, errors)
@@ -245,7 +245,9 @@ class Depth:
                 high,
                 verdict,
             )
-            rows.append(Shown(policy.name, figures, cost, difference, beside, reasons))
+            rows.append(
+                ShownPolicy(policy.name, figures, cost, difference, beside, reasons)
+            )
         return sorted(rows, key=attrgetter("difference"))
 
     @cached_property

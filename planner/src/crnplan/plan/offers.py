@@ -15,7 +15,7 @@ from ..read.item import Item
 from ..remarks import Remark
 from .choice import by_prices
 from .correction import in_blocks
-from .drawn import Draws, Drawn, estimated
+from .drawn import Draws, DrawnItems, estimated
 from .how import Settings, flat_of
 from .prices import weight_of
 from .question import Levels, NoPolicy, Question, question_of
@@ -48,7 +48,7 @@ class Offer:
 
 
 @dataclass
-class Sums:
+class OfferSums:
     """The sums of offers of a group, how many there are, and which items are tried on the past."""
 
     items: int = 0
@@ -73,7 +73,7 @@ class Sums:
         return 1 - self.unmet / self.asked
 
     @property
-    def drawn(self) -> Drawn:
+    def drawn(self) -> DrawnItems:
         """Returns the items that are tried on the past."""
         return self.draws.drawn(self.asked)
 
@@ -170,7 +170,10 @@ def tried_with(
 
 
 def met_on_past(
-    offers: Mapping[str, Offer], drawn: Drawn, sizes: Mapping[str, float], total: float
+    offers: Mapping[str, Offer],
+    drawn: DrawnItems,
+    sizes: Mapping[str, float],
+    total: float,
 ) -> Floats:
     """Returns the share of demand that all items of a group met at once on the past, at each price, by the offers of
     those that were tried. `sizes` are by theory what these ask for, and `total` is that of all.

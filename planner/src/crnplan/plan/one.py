@@ -51,17 +51,17 @@ from .answer import (
     Correction,
     Figures,
     LawFacts,
-    Run,
+    CheckRun,
     Share,
 )
 from .binding import bounds_of, remarks_of_bounds, remarks_of_today
 from .bounds import COVERAGES
-from .checked_run import Sample, checked_run
+from .checked_run import RunSample, checked_run
 from .choice import CLOSE, Choice, allowed_by, best_by_price, choice_of, levels_of
 from .packs import remarks_of_packs
 from .how import Settings
 from .question import Levels, NoPolicy, Question, Unplanned, question_of
-from .yearly import Planned, over_year, verdict_of
+from .yearly import PlannedMonth, over_year, verdict_of
 
 Result = TypeVar("Result")
 TENTHS = 0.1, 0.9
@@ -69,17 +69,17 @@ LEAST_DEMANDS = 10
 ROUGH_RATES = 0.001
 
 
-Compared = tuple[float | None, float | None, float | None, float | None]
+ComparedFigures = tuple[float | None, float | None, float | None, float | None]
 
 
-def by_theory(today: Figures, chosen: Figures) -> Compared:
+def by_theory(today: Figures, chosen: Figures) -> ComparedFigures:
     """Returns what today's policy costs, and what the chosen one saves, with both ends between which that is."""
     saving, near = today.cost - chosen.cost, CLOSE * today.cost
     return today.cost, saving, saving - near, saving + near
 
 
 def beside_today(
-    question: Question, figures: Mapping[str, Figures], run: Run | None
+    question: Question, figures: Mapping[str, Figures], run: CheckRun | None
 ) -> tuple[str, float | None, float | None]:
     """Compares the chosen policy with today's: by the run if there is one and theory is not exact. Returns the verdict, what
     today's costs, and the saving; both are None without a policy today."""
@@ -215,7 +215,7 @@ def remarks_of_past(question: Question, levels: Levels) -> Iterator[Remark]:
 
 
 def remarks_of(
-    question: Question, sample: Sample | None, choice: Choice
+    question: Question, sample: RunSample | None, choice: Choice
 ) -> Iterator[Remark]:
     """Yields what must be said of the law and of the figures of an item."""
     theory, settings = question.theory, question.settings
@@ -393,13 +393,13 @@ def planned(
 ) -> Answer:
     """Returns the answer to an item, with its levels in an earlier plan: perhaps those of each month of a year."""
     first = before[0] if before else None
-    question, months = question_of(item, settings, prior, first), list[Planned]()
+    question, months = question_of(item, settings, prior, first), list[PlannedMonth]()
     if question.season is None:
         return plan_one(question, program)
     earlier = itertools.chain(before[1:], itertools.repeat(first))
     for stretch in question.season.year:
         asked = question.month(stretch, next(earlier)) if months else question
-        months.append(Planned(asked, plan_one(asked, program)))
+        months.append(PlannedMonth(asked, plan_one(asked, program)))
     return over_year(months)
 
 

@@ -7,7 +7,7 @@ from dataclasses import replace
 
 import numpy as np
 
-from ..crnsim.periods import Past, Rates, periods_of
+from ..crnsim.periods import Realization, Rates, periods_of
 from ..law import Law
 from ..remarks import Remark
 from .question import Levels, Question
@@ -30,7 +30,7 @@ def remarks_of_packs(question: Question, levels: Levels) -> Iterator[Remark]:
         for law in (question.demand, returns)
     )
     leads = question.lead.draws(random, PERIODS)
-    exact = Past(demands, back, leads, question.item.review)
+    exact = Realization(demands, back, leads, question.item.review)
     # Stock is counted in items and charged by the box, so a setup counts once for each item of a box.
     charged = Rates(box * rates["setup"], 0, rates["holding"], rates.get("backlog", 0))
     s, S = box * levels[0], box * levels[1]

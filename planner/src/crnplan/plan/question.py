@@ -17,7 +17,7 @@ from ..errors import CrnplanError, Refused
 from ..formats import MOST_DEMAND, MOST_ITEMS, MOST_LEAD, limits
 from ..law import Law
 from ..money import rounded_costs
-from ..read.bounds import Bounds
+from ..read.bounds import OrderBounds
 from ..read.item import NEW, Item
 from ..remarks import Remark, Value
 from ..policies import Levels as Levels
@@ -96,7 +96,7 @@ class Terms:
         return self.item.law is not None
 
     @property
-    def bounds(self) -> Bounds:
+    def bounds(self) -> OrderBounds:
         """Returns the bounds of the item's policies, in items."""
         return self.settings.bounds_of(self.item)
 

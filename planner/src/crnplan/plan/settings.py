@@ -12,7 +12,7 @@ from ..read.columns import ROLES
 from ..read.items import Reading
 from ..read.told import COLUMNS
 from ..toml.documents import Path as Place, TreeFault
-from ..toml.rules import RANGE, Check, Table, no_faults, read_tables
+from ..toml.rules import RANGE, Check, TableCheck, no_faults, read_tables
 from ..vocabulary import RefusedEntries, Word, words_in
 from .how import Settings
 
@@ -39,7 +39,7 @@ def word_check(word: Word, place: str = "") -> Check:
     return check
 
 
-def catalogue_rules() -> Table:
+def catalogue_rules() -> TableCheck:
     """Returns the rules of the settings of a catalogue. Other tables of the file are not ours."""
     keys = dict[str, Check]()
     for word in (*words_in(Reading).values(), *words_in(Settings).values()):
@@ -47,8 +47,8 @@ def catalogue_rules() -> Table:
             keys |= {kind: word_check(word, kind) for kind in ROLES}
         elif word.key:
             keys[word.key] = word_check(word)
-    own = Table(keys, is_whole=False)
-    return Table({"catalogue": own}, other=no_faults, is_whole=False)
+    own = TableCheck(keys, is_whole=False)
+    return TableCheck({"catalogue": own}, other=no_faults, is_whole=False)
 
 
 CATALOGUE_RULES = catalogue_rules()

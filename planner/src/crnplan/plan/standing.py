@@ -28,7 +28,7 @@ from .answer import Answer, Laws
 from .risk import Risk, demands_of, items_of
 
 MOST_DAYS = 36_525  # from today to a latest date
-Money = Fraction | None  # None if an item has no price
+Worth = Fraction | None  # None if an item has no price
 
 
 @dataclass(frozen=True)
@@ -118,7 +118,7 @@ class Standing:
         return max(-self.to_level, NONE) if self.is_planned else NONE
 
     @cached_property
-    def excess(self) -> Money:
+    def excess(self) -> Worth:
         """Returns what that is worth."""
         return self.worth(self.above)
 
@@ -148,7 +148,7 @@ class Standing:
         """Returns whether the planner orders another quantity than the policy."""
         return self.quantity is not None and self.placed != self.planned
 
-    def worth(self, items: Fraction | int) -> Money:
+    def worth(self, items: Fraction | int) -> Worth:
         """Returns what so many items are worth."""
         return None if self.item.price is None else items * self.item.price
 

@@ -13,11 +13,10 @@ from ..read.item import UNORDERED, Item
 from ..read.items import Reject
 from ..remarks import Remark
 from .answer import Answer, Laws
-from .catalogue import PlannedFolder
-from .drawn import Drawn, Draws
+from .catalogue import Decided, PlannedFolder
+from .drawn import DrawnItems, Draws
 from .totals import Totals
 
-Decided = tuple[Item, Answer | Remark]
 NO_LAWS = Laws(1, Law((), ()), Law((), ()), None)
 
 
@@ -70,7 +69,7 @@ class Survey:
         return [decided for *_, decided in sorted(self._kept, reverse=True)]
 
     @property
-    def drawn(self) -> Drawn:
+    def drawn(self) -> DrawnItems:
         """Returns some of the items that are compared, from which sums over all of these are estimated. Their sizes are
         what they cost with today's levels and with the new ones."""
         return self._draws.drawn(self.totals["cost_today"] + self.totals["cost_chosen"])

@@ -28,7 +28,7 @@ from ..store.stored import Store
 from ..store.work import Work
 from .answer import CHOSEN, TODAY as TODAY_POLICY, Answer
 from .catalogue import PlannedFolder
-from .drawn import Drawn, Estimate, estimated
+from .drawn import DrawnItems, EstimatedSum, estimated
 from .one import or_fault
 from .how import Settings
 from .question import Levels, Terms, terms_of
@@ -167,12 +167,14 @@ def kept_swings(folder: PlannedFolder, survey: Survey) -> Swings | None:
             return None
         pairs = [(folder.item(name), kept.answer(name)) for name in drawn]
     known = [
-        Known(*planned, swing) for planned, swing in pairs if isinstance(swing, Swing)
+        KnownSwings(*planned, swing)
+        for planned, swing in pairs
+        if isinstance(swing, Swing)
     ]
     return swings_of(known, survey.drawn, survey.totals)
 
 
-class Known(NamedTuple):
+class KnownSwings(NamedTuple):
     """An item whose figures in all cases are known."""
 
     item: Item
@@ -187,10 +189,10 @@ class CaseSum(NamedTuple):
 
     what: str
     tenths: int
-    cost: Estimate
-    saving: Estimate
-    beyond: Estimate
-    unmet: Estimate | None
+    cost: EstimatedSum
+    saving: EstimatedSum
+    beyond: EstimatedSum
+    unmet: EstimatedSum | None
     lacking: int
 
 
@@ -208,7 +210,7 @@ class Swings(NamedTuple):
         return max(case.lacking for case in self.cases)
 
 
-class Sample:
+class SwingSample:
     """The items that have a case, as arrays.
 
     They have their `answers`, their `rows`, their `sizes`, what of their demand the chosen policies do not meet at once
@@ -217,10 +219,14 @@ class Sample:
     """
 
     def __init__(
-        self, known: Sequence[Known], place: int, drawn: Drawn, totals: Totals
+        self,
+        known: Sequence[KnownSwings],
+        place: int,
+        drawn: DrawnItems,
+        totals: Totals,
     ) -> None:
         """Takes the items that have the case at a place of `CASES`."""
-        taken, others, lost = list[Known](), list[Known](), 0.0
+        taken, others, lost = list[KnownSwings](), list[KnownSwings](), 0.0
         for one in known:
             is_taken = one.item.name in drawn.taken
             if one.swing.rows[place]:
@@ -247,12 +253,12 @@ class Sample:
         )
         self.all_unmet = self.demand - met
 
-    def sum_of(self, parts: Floats, sizes: Floats, total: float) -> Estimate:
+    def sum_of(self, parts: Floats, sizes: Floats, total: float) -> EstimatedSum:
         """Returns the sum of a figure over all items from its parts. That of items that are not taken for certain
         follows the sum of their sizes, as `total` is that of all."""
         taken, left = self._taken, total - float(sizes[: self._taken].sum())
         if not self._is_enough:
-            return Estimate(0.0, math.inf)
+            return EstimatedSum(0.0, math.inf)
         others = estimated(
             parts[taken:],
             sizes[taken:],
@@ -261,15 +267,17 @@ class Sample:
         )
         return others.plus(float(parts[:taken].sum()))
 
-    def money_of(self, parts: Floats) -> Estimate:
+    def money_of(self, parts: Floats) -> EstimatedSum:
         """Returns the sum of an amount of money over all items."""
         return self.sum_of(parts, self.sizes, self.total)
 
-    def unmet_share(self, fills: Floats) -> Estimate:
+    def unmet_share(self, fills: Floats) -> EstimatedSum:
         """Returns the share of the demand of all items that is not met at once, if drawn ones meet these shares. What is
         not met follows what is not met as planned, and is no more than all."""
         unmet, error = self.sum_of(self.asked * (1 - fills), self.unmet, self.all_unmet)
-        return Estimate(min(max(unmet, 0.0) / self.demand, 1.0), error / self.demand)
+        return EstimatedSum(
+            min(max(unmet, 0.0) / self.demand, 1.0), error / self.demand
+        )
 
 
 def part_costs(what: str, totals: Totals) -> tuple[float, float]:
@@ -278,7 +286,7 @@ def part_costs(what: str, totals: Totals) -> tuple[float, float]:
     return totals[f"{part}_{TODAY_POLICY}"], totals[f"{part}_{CHOSEN}"]
 
 
-def cost_case(what: str, tenths: int, sample: Sample, totals: Totals) -> CaseSum:
+def cost_case(what: str, tenths: int, sample: SwingSample, totals: Totals) -> CaseSum:
     """Returns a case of another cost. What policies cost then is known for all items, and service is as planned."""
     more = tenths / 10 - 1
     today, chosen = (more * cost for cost in part_costs(what, totals))
@@ -286,15 +294,15 @@ def cost_case(what: str, tenths: int, sample: Sample, totals: Totals) -> CaseSum
     return CaseSum(
         what,
         tenths,
-        Estimate(totals["cost_chosen"] + chosen),
-        Estimate(totals["saving"] + today - chosen),
+        EstimatedSum(totals["cost_chosen"] + chosen),
+        EstimatedSum(totals["saving"] + today - chosen),
         beyond,
         planned_unmet(totals),
         sample.lacking,
     )
 
 
-def law_case(what: str, tenths: int, sample: Sample, totals: Totals) -> CaseSum:
+def law_case(what: str, tenths: int, sample: SwingSample, totals: Totals) -> CaseSum:
     """Returns a case of other laws. What all items cost and save as planned is known: what the case changes of that is
     estimated."""
     rows = sample.rows
@@ -315,27 +323,29 @@ def law_case(what: str, tenths: int, sample: Sample, totals: Totals) -> CaseSum:
     )
 
 
-def planned_unmet(totals: Totals) -> Estimate | None:
+def planned_unmet(totals: Totals) -> EstimatedSum | None:
     """Returns the share of demand that is not met at once as planned."""
     service = totals.service(CHOSEN)
-    return None if service is None else Estimate(1 - service)
+    return None if service is None else EstimatedSum(1 - service)
 
 
-def swings_of(known: Sequence[Known], drawn: Drawn, totals: Totals) -> Swings | None:
+def swings_of(
+    known: Sequence[KnownSwings], drawn: DrawnItems, totals: Totals
+) -> Swings | None:
     """Returns the catalogue as it is, and all cases that some of the items have; None without such a case."""
     cases = [
         CaseSum(
             NOTHING,
             10,
-            Estimate(totals["cost_chosen"]),
-            Estimate(totals["saving"]),
-            Estimate(0.0),
+            EstimatedSum(totals["cost_chosen"]),
+            EstimatedSum(totals["saving"]),
+            EstimatedSum(0.0),
             planned_unmet(totals),
             0,
         )
     ]
     for place, (what, tenths) in enumerate(CASES):
-        sample = Sample(known, place, drawn, totals)
+        sample = SwingSample(known, place, drawn, totals)
         if not sample.answers:
             continue
         if what in LAWS:

@@ -28,8 +28,8 @@ from ..table import names_of
 from ..words import message
 from .answer import Answer
 from .catalogue import PlannedFolder
-from .standing import Money, Standing
-from .survey import Decided
+from .standing import Worth, Standing
+from .catalogue import Decided
 
 MOST_NAMED = 8  # items of a message
 OLD_DAYS = 56  # after its record, from which on the age of a plan is said
@@ -54,7 +54,7 @@ class Lying:
     on_order: Fraction = NONE
 
     @property
-    def value(self) -> Money:
+    def value(self) -> Worth:
         """Returns what its stock is worth; None if that or the price is not known."""
         stock = self.hand.stock if self.hand else None
         return value_of(stock, self.item.price)
@@ -80,13 +80,13 @@ class Addition:
 
 
 @dataclass(frozen=True)
-class Group:
+class OrderGroup:
     """The items of a class or a supplier. `minimum` is the least order value of a supplier; None if there is none."""
 
     name: str
     standings: Sequence[Standing]
     dead: Sequence[Lying]
-    minimum: Money = None
+    minimum: Worth = None
 
     @cached_property
     def due(self) -> list[Standing]:
@@ -141,7 +141,7 @@ class Group:
                 yield Addition(standing, total)
 
 
-def sum_of_money(parts: Iterable[Money]) -> Fraction:
+def sum_of_money(parts: Iterable[Worth]) -> Fraction:
     """Returns the sum of amounts of items with a price."""
     return sum((part for part in parts if part is not None), NONE)
 
@@ -171,9 +171,9 @@ class Today:
     has_quantities: bool = False
 
     @cached_property
-    def whole(self) -> Group:
+    def whole(self) -> OrderGroup:
         """Returns all items."""
-        return Group("", self.standings, self.dead)
+        return OrderGroup("", self.standings, self.dead)
 
     @property
     def above(self) -> list[Standing]:
@@ -192,15 +192,15 @@ class Today:
         return [standing for standing in self.standings if standing.hand.owed]
 
     @cached_property
-    def classes(self) -> list[Group]:
+    def classes(self) -> list[OrderGroup]:
         groups = self._groups("category", {})
         return groups if any(group.name for group in groups) else []
 
     @cached_property
-    def suppliers(self) -> list[Group]:
+    def suppliers(self) -> list[OrderGroup]:
         return self._groups("supplier", self.minimums)
 
-    def _groups(self, role: str, minimums: Mapping[str, Fraction]) -> list[Group]:
+    def _groups(self, role: str, minimums: Mapping[str, Fraction]) -> list[OrderGroup]:
         """Returns the items by what their masters say, if any of them says it."""
         standings = defaultdict[str, list[Standing]](list)
         dead = defaultdict[str, list[Lying]](list)
@@ -209,7 +209,7 @@ class Today:
         for lying in self.dead:
             dead[getattr(lying.item, role)].append(lying)
         return [
-            Group(name, standings[name], dead[name], minimums.get(name))
+            OrderGroup(name, standings[name], dead[name], minimums.get(name))
             for name in sorted({*standings, *dead})
         ]
 
@@ -253,7 +253,7 @@ class Today:
         return [standing for standing in self.changed if not standing.planned]
 
     @cached_property
-    def short(self) -> dict[str, Group]:
+    def short(self) -> dict[str, OrderGroup]:
         """Returns the suppliers whose orders are below their minimum."""
         return {group.name: group for group in self.suppliers if group.short}
 

@@ -27,7 +27,7 @@ from ..store.files import IN_KEPT, Folder
 from ..store.means import Means
 from ..store.stored import Store
 from .correction import LEAST_ITEMS
-from .offers import Asked, Offer, Sums, met_on_past, offer_of, past_of
+from .offers import Asked, Offer, OfferSums, met_on_past, offer_of, past_of
 from .one import each_answer
 from .prices import ITEMS, UNITS, VALUE, Price, Prices
 from .how import Settings
@@ -186,9 +186,9 @@ class Finding:
             self.means,
         )
 
-    def sums(self, asked: Mapping[str, Asked], kept: str) -> dict[str, Sums]:
+    def sums(self, asked: Mapping[str, Asked], kept: str) -> dict[str, OfferSums]:
         """Returns the sums of the offers of all groups by theory. Raises Refused if a group has none."""
-        sums = {group: Sums() for group in asked}
+        sums = {group: OfferSums() for group in asked}
         for name, offer in self.offers(asked, kept, offer_of, self.groups):
             sums[self.groups[name]].add(name, offer)
         for group, some in sums.items():
@@ -222,7 +222,7 @@ class Finding:
             }
         )
 
-    def place_of(self, group: str, sums: Sums) -> int:
+    def place_of(self, group: str, sums: OfferSums) -> int:
         """Returns the place of the first price at which enough is met. Raises Refused if there is none."""
         places = np.flatnonzero(sums.met >= self.settings.together[group])
         if not len(places):
@@ -234,7 +234,7 @@ class Finding:
 
     def on_past(
         self,
-        coarse: Mapping[str, Sums],
+        coarse: Mapping[str, OfferSums],
         grids: Mapping[str, tuple[float, ...]],
         places: Mapping[str, int],
     ) -> dict[str, OnPast]:
@@ -273,7 +273,7 @@ class Finding:
         }
 
     def price_of(
-        self, group: str, sums: Sums, asked: Asked, past: OnPast | None
+        self, group: str, sums: OfferSums, asked: Asked, past: OnPast | None
     ) -> Price:
         """Returns the price of a group by the sums at finer prices, but no less than that of the past."""
         wanted, place = self.settings.together[group], self.place_of(group, sums)

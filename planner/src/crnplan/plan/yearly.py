@@ -25,7 +25,7 @@ from .answer import (
     Answer,
     Figures,
     Month,
-    Run,
+    CheckRun,
 )
 from .choice import CLOSE
 from .question import Question
@@ -52,7 +52,7 @@ def verdict_of(
     return DEARER if high is not None and high < 0 else UNDECIDED
 
 
-class Planned(NamedTuple):
+class PlannedMonth(NamedTuple):
     """A month of the coming year: its question, and the answer to that."""
 
     question: Question
@@ -86,7 +86,7 @@ def mean_of(figures: Sequence[Figures], periods: Floats, asked: Floats) -> Figur
 class Year:
     """The months of a year, and means over them."""
 
-    def __init__(self, months: Sequence[Planned]) -> None:
+    def __init__(self, months: Sequence[PlannedMonth]) -> None:
         self.months = months
         self.answers = [month.answer for month in months]
         self.periods = np.array([month.periods for month in months], float)
@@ -111,7 +111,7 @@ class Year:
         return mean_of(figures, self.periods, self.asked)
 
     @property
-    def run(self) -> Run | None:
+    def run(self) -> CheckRun | None:
         """Returns the run of the first month with the mean costs and savings of the year; None without runs. The runs of all months are on
         the same random numbers, so their errors and intervals are added as if they were one.
         """
@@ -142,7 +142,7 @@ class Year:
         return verdict_of(question, answer.today, answer.saving, low, high)
 
 
-def over_year(months: Sequence[Planned]) -> Answer:
+def over_year(months: Sequence[PlannedMonth]) -> Answer:
     """Returns the answer to the first month of an item that is planned by its season, with means of the year in place of
     the figures of that month, and with the calendar of levels."""
     year, (question, first) = Year(months), months[0]

@@ -113,7 +113,7 @@ AMOUNTS: dict[str, dict[str, str]] = {
 }
 
 
-class Amount(NamedTuple):
+class ReadAmount(NamedTuple):
     """What a text says by one reading: a number, the sign between its thousands, its decimal sign, its currency and its
     unit, each empty if it has none. The unit is one of headings.toml, or the word that stands for none.
     """
@@ -134,7 +134,7 @@ class Amount(NamedTuple):
 
 
 @functools.lru_cache(1 << 14)
-def amounts_of(text: str) -> Mapping[str, Amount]:
+def amounts_of(text: str) -> Mapping[str, ReadAmount]:
     """Returns the amounts that a text may be, by decimal sign. One that needs no decimal sign is the same by both."""
     if len(text) > MOST_LETTERS:
         return {}
@@ -151,7 +151,7 @@ def amounts_of(text: str) -> Mapping[str, Amount]:
     currency = SIGNS.get(currency, currency)
     word = shell["unit"]
     unit = UNITS.get(plain_name(word), word) if word else ""
-    amounts = dict[str, Amount]()
+    amounts = dict[str, ReadAmount]()
     for sign, form in FORMS.items():
         digits = form.fullmatch(shell["digits"])
         if digits:
@@ -161,7 +161,7 @@ def amounts_of(text: str) -> Mapping[str, Amount]:
             if signs and signs in MINUS:
                 number = -number
             group = digits["group"] or ""
-            amounts[sign] = Amount(number, group, sign * bool(part), currency, unit)
+            amounts[sign] = ReadAmount(number, group, sign * bool(part), currency, unit)
     return amounts
 
 
@@ -250,7 +250,7 @@ def joined(by_sign: Mapping[str, Collection[Reading]]) -> list[Reading]:
     return [*dict.fromkeys(reading for found in by_sign.values() for reading in found)]
 
 
-class AmountReader(ColumnReader[Amount]):
+class AmountReader(ColumnReader[ReadAmount]):
     """Reads the amounts of a column: texts, or numbers as a sheet stores them. `currencies` has the first text of each
     currency, and is shared by all columns of money; columns without it have no currency. A column that counts items may
     have a word for these behind its numbers, as `45 pcs`."""
@@ -265,11 +265,11 @@ class AmountReader(ColumnReader[Amount]):
         self.currencies = currencies
         self.counts_items = counts_items
 
-    def readings(self, text: str) -> Mapping[str, Collection[Amount]]:
+    def readings(self, text: str) -> Mapping[str, Collection[ReadAmount]]:
         found = amounts_of(text)
         return {sign: [*filter(None, [found.get(sign)])] for sign in DECIMALS}
 
-    def by_sign(self, cell: str | Shown) -> Mapping[str, Collection[Amount]]:
+    def by_sign(self, cell: str | Shown) -> Mapping[str, Collection[ReadAmount]]:
         """Returns no reading of a number of a workbook whose format shows another sign than it has."""
         found = super().by_sign(cell)
         if isinstance(cell, str):
@@ -277,22 +277,22 @@ class AmountReader(ColumnReader[Amount]):
         number = Fraction(cell.digits)
         return {"": [it for it in found[""] if it.number == number]}
 
-    def plain(self, number: Fraction) -> Amount:
-        return Amount(number)
+    def plain(self, number: Fraction) -> ReadAmount:
+        return ReadAmount(number)
 
-    def named(self, reading: Amount) -> tuple[Fraction, str]:
+    def named(self, reading: ReadAmount) -> tuple[Fraction, str]:
         return abs(reading.number), reading.text
 
-    def see(self, text: str, by_sign: Mapping[str, Collection[Amount]]) -> None:
+    def see(self, text: str, by_sign: Mapping[str, Collection[ReadAmount]]) -> None:
         for amount in joined(by_sign):
             if amount.currency and self.currencies is not None:
                 self.currencies.setdefault(amount.currency, text)
 
-    def amount(self, cell: Cell) -> Amount:
+    def amount(self, cell: Cell) -> ReadAmount:
         """Returns the amount of a cell that is not empty. Raises Unreadable."""
         if isinstance(cell, str) and cell.isascii() and cell.isdecimal():
             if len(cell) <= MOST_LETTERS:
-                return Amount(Fraction(int(cell)))
+                return ReadAmount(Fraction(int(cell)))
         amount = self.read(cell)
         if amount.currency and self.currencies is None:
             raise Unreadable(self.none, cell)
@@ -307,7 +307,7 @@ class AmountReader(ColumnReader[Amount]):
         if_empty, *_ = KINDS[kind]
         if cell == "" and if_empty:
             raise Unreadable(if_empty)
-        amount = Amount(Fraction(0)) if cell == "" else self.amount(cell)
+        amount = ReadAmount(Fraction(0)) if cell == "" else self.amount(cell)
         number, own = amount.number, ITEM * self.counts_items
         if unit is not None:
             own = PERCENT
@@ -357,7 +357,7 @@ def checked(number: Fraction, kind: str, cell: Cell) -> Fraction:
     return number
 
 
-def share_in(amount: Amount, unit: str, cell: object, role: str) -> Fraction:
+def share_in(amount: ReadAmount, unit: str, cell: object, role: str) -> Fraction:
     """Returns the share that an amount is, in shares or in percent if no % stands behind it. Raises Unreadable for one
     that may be either, with both."""
     if amount.unit == PERCENT:
@@ -376,7 +376,7 @@ def share_in(amount: Amount, unit: str, cell: object, role: str) -> Fraction:
     return number
 
 
-def amount_in(value: Any) -> Amount:
+def amount_in(value: Any) -> ReadAmount:
     """Returns the amount that a word, a key or an argument states: a number, or a text such as "12,50". Raises Unreadable,
     and Refused for a text with two readings."""
     try:

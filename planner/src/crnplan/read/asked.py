@@ -10,7 +10,7 @@ from .amounts import ITEM, UNITS
 from .cells import HEADINGS, plain_name
 
 if TYPE_CHECKING:
-    from .sources import Column
+    from .sources import SourceColumn
 
 # A role that the name of a column may have, whether it is its very name, and the words of it that are not known.
 Match = tuple[str | None, bool, list[str]]
@@ -136,7 +136,7 @@ def narrowed(
         yield NO_MATCH if is_other else match
 
 
-def drop_units(columns: dict[str, Column], amounts: Collection[str]) -> bool:
+def drop_units(columns: dict[str, SourceColumn], amounts: Collection[str]) -> bool:
     """Leaves out the unit of measure if the names of all amounts say what they count. Returns whether those of some say it,
     and there is no unit of measure for the others."""
     said = {

@@ -51,14 +51,14 @@ class Codes:
         return np.array(codes, np.int32)
 
 
-class Column(NamedTuple):
+class CodedColumn(NamedTuple):
     """The cells of a column: a code for each row, and the cell of each code. Two codes may have the same cell."""
 
     codes: npt.NDArray[np.signedinteger[Any]]
     distinct: list[Cell]
 
     @classmethod
-    def of(cls, cells: Sequence[Cell]) -> Column:
+    def of(cls, cells: Sequence[Cell]) -> CodedColumn:
         codes = Codes()
         return cls(codes.of(cells), codes.distinct)
 
@@ -67,11 +67,11 @@ class Column(NamedTuple):
         each: npt.NDArray[Any] = np.array([*values], kind)[self.codes]
         return each
 
-    def read(self, read: Callable[[Cell], Cell], kept: Flags) -> Column:
+    def read(self, read: Callable[[Cell], Cell], kept: Flags) -> CodedColumn:
         """Returns the kept rows with what a function reads in their cells: two codes have two values."""
         codes = Codes()
         places = codes.of(map(read, self.distinct))
-        return Column(places[self.codes[kept]], codes.distinct)
+        return CodedColumn(places[self.codes[kept]], codes.distinct)
 
     def counts(self, rows: Flags) -> dict[Cell, int]:
         """Returns how many of some rows have each cell that one of them has."""
@@ -94,7 +94,7 @@ class Cells(NamedTuple):
     has that has more than the heading, with its text."""
 
     lines: Numbers
-    columns: Sequence[Column]
+    columns: Sequence[CodedColumn]
     wide: dict[int, tuple[int, str]]
 
 
@@ -105,7 +105,7 @@ class Block:
     """
 
     lines: Numbers
-    columns: dict[str, Column]
+    columns: dict[str, CodedColumn]
     hashes: npt.NDArray[np.uint64]
     wide: dict[int, tuple[int, str]]
     good: Flags
@@ -121,7 +121,7 @@ class Block:
         kept."""
         kept = ~blank_rows(cells, next(iter(sheet.columns.values())).place)
         dated = bare_cell if sheet.rules.date_formats else dated_cell
-        columns = dict[str, Column]()
+        columns = dict[str, CodedColumn]()
         for role, column in sheet.columns.items():
             read: Callable[[Cell], Cell] = dated if role in DATES else bare_cell
             if role == "item":
@@ -163,13 +163,13 @@ class Block:
 
     def part(self, rows: Numbers) -> Block:
         """Returns some of the rows with their values alone."""
-        columns = dict[str, Column]()
+        columns = dict[str, CodedColumn]()
         for role, (codes, values) in self.columns.items():
             table = np.zeros(len(values), np.int32)
             table[codes[rows]] = 1
             used = np.flatnonzero(table)
             table[used] = np.arange(len(used))
-            columns[role] = Column(
+            columns[role] = CodedColumn(
                 table[codes[rows]], [*map(values.__getitem__, used.tolist())]
             )
         wide = dict[int, tuple[int, str]]()
@@ -216,7 +216,7 @@ def careful_cells(sheet: Sheet, rows: Iterator[Row]) -> Iterator[Cells]:
                 cells = [*cells, *padding][:width]
             texts.append(cells)
         lines = np.array([line for line, _ in some])
-        yield Cells(lines, [*map(Column.of, zip(*texts))], wide)
+        yield Cells(lines, [*map(CodedColumn.of, zip(*texts))], wide)
 
 
 def plain_cells(sheet: TextSheet, data: bytes, skip: int) -> Cells | None:
@@ -254,7 +254,7 @@ def plain_cells(sheet: TextSheet, data: bytes, skip: int) -> Cells | None:
     )
 
 
-def pandas_columns(sheet: TextSheet, data: memoryview) -> list[Column]:
+def pandas_columns(sheet: TextSheet, data: memoryview) -> list[CodedColumn]:
     """Returns the columns of bytes in UTF-8 without quotes, whose rows all have as many cells as the heading."""
     import pandas as pd
 
@@ -277,7 +277,7 @@ def pandas_columns(sheet: TextSheet, data: memoryview) -> list[Column]:
     for place in range(len(sheet.heading)):
         codes, texts = pd.factorize(frame.pop(place).to_numpy())
         # As csv does, which passes over blanks behind a delimiter.
-        columns.append(Column(codes, [text.lstrip(" ") for text in texts]))
+        columns.append(CodedColumn(codes, [text.lstrip(" ") for text in texts]))
     return columns
 
 

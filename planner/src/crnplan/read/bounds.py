@@ -6,7 +6,7 @@ from fractions import Fraction
 
 
 @dataclass(frozen=True)
-class Bounds:
+class OrderBounds:
     """What a buyer can order and keep of an item; None where nothing is stated.
 
     Orders are rounded up to packs of `pack` items, and have at least `order_min` items. s is at least `s_min` items. S is at

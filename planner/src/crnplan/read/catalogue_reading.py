@@ -18,14 +18,14 @@ from ..store.files import IN_KEPT, Folder, faults_of, own_folder
 from ..store.means import Means
 from ..money import MOST_DECIMALS, Currency
 from ..remarks import Remark, Value
-from ..store.stored import Cell, Opened, check_whole, quoted, reading
+from ..store.stored import StoredCell, Opened, check_whole, quoted, reading
 from ..words import message
 from .blocks import Sizes
 from .choosing import said_of_marks
 from .columns import converted, is_converted
 from .controls import Controls, controls_in, counts_of, together, tree_of
 from .defaults import CLASS, DEFAULT, ORDERS, SOURCES, distinct
-from .filed import FiledTable, Whole, read_tables
+from .filed import FiledTable, WholeTables, read_tables
 from .found import found_of
 from .item import NEW, NO_DEMAND, PHASE_OUT, PLANNED, STOPPED, Item
 from .items import Counts, FileCounts, Reject, Reading
@@ -196,14 +196,14 @@ class Writer:
             f"{TABLES} CREATE TABLE facts (name TEXT PRIMARY KEY, value TEXT);"
         )
 
-    def add_rows(self, insert: str, rows: Iterable[Sequence[Cell]]) -> None:
+    def add_rows(self, insert: str, rows: Iterable[Sequence[StoredCell]]) -> None:
         """Adds the cells of items, or of what is left out or named."""
         self.base.executemany(insert, rows)
 
     def add_parts(self, parts: Iterable[PartRead]) -> None:
         """Adds the cells of parts, as they were written there: items in order of names."""
         with contextlib.ExitStack() as stack:
-            items = list[Iterator[Sequence[Cell]]]()
+            items = list[Iterator[Sequence[StoredCell]]]()
             for part in parts:
                 connection = contextlib.closing(sqlite3.connect(part.path))
                 base = stack.enter_context(connection)
@@ -297,7 +297,7 @@ def read_into(
         room = folder.room()
         with Means(1 if parts == 1 else jobs).workers() as workers:
             filed = read_tables(sheets, workers, room, parts, sizes)
-            whole = Whole.of(filed, words)
+            whole = WholeTables.of(filed, words)
             settled = settle_times(filed, whole, parts)
             read = read_parts(filed, whole, words, workers, room, parts)
         if words.twice is None:
@@ -317,7 +317,7 @@ def read_into(
 
 def facts_of(
     tables: Mapping[str, FiledTable],
-    whole: Whole,
+    whole: WholeTables,
     parts: Sequence[PartRead],
     words: Reading,
 ) -> dict[str, Any]:
@@ -348,7 +348,7 @@ def facts_of(
 
 def said_of(
     tables: Mapping[str, FiledTable],
-    whole: Whole,
+    whole: WholeTables,
     settled: Iterable[Remark],
     sources: Mapping[str, Mapping[str, int]],
 ) -> Iterator[Fault]:

@@ -44,11 +44,11 @@ from .cells import (
     text_of,
 )
 from .columns import ROLES, listed, usual_names
-from .sources import Column, Mark, Sheet
+from .sources import SourceColumn, Mark, Sheet
 
 if TYPE_CHECKING:
     from .items import Reading
-    from .rows import Rows, Table
+    from .rows import Rows, KeptTable
 
 ANY = "*"  # that each value of a column is taken
 PLACE, STATE = "place", "state"  # what a watched column says of a row
@@ -145,7 +145,7 @@ def marks_of(kind: str, sheet: Sheet, words: Reading) -> dict[str, Mark]:
             values = frozenset() if ANY in values else values
         elif not use:
             continue
-        marks[f"={name}"] = Mark(Column(name, place), use, values)
+        marks[f"={name}"] = Mark(SourceColumn(name, place), use, values)
     return marks
 
 
@@ -239,7 +239,7 @@ def named_values(counts: Mapping[Cell, int]) -> str:
 
 
 def said_of_marks(
-    kind: str, table: Table, split: Mapping[str, int]
+    kind: str, table: KeptTable, split: Mapping[str, int]
 ) -> Iterator[Remark]:
     """Yields what is to be said of watched columns: places over which items are summed, and several states."""
     for name, mark in table.sheet.marks.items():

@@ -18,7 +18,7 @@ from .amounts import AMOUNTS, ITEM, UNITS
 from .asked import Match, drop_units, narrowed, parted, words_of
 from .cells import HEADINGS, plain_name
 from .law_forms import LAWS
-from .sources import WIDE_ROLES, Column, Sheet
+from .sources import WIDE_ROLES, SourceColumn, Sheet
 from .unit_words import (
     BESIDE,
     CURRENCIES,
@@ -82,7 +82,7 @@ TWO_COLUMNS = "two columns"  # the code of what is said of these
 SEVERAL = "several units of a column"  # that of those in a heading that is stated
 
 
-def counts_items(role: str, column: Column | None) -> bool:
+def counts_items(role: str, column: SourceColumn | None) -> bool:
     """Returns whether the numbers of a column count items one by one."""
     return ROLE_UNITS.get(role) in ("count", "size") and (
         column is None or column.unit in ("", ITEM)
@@ -131,18 +131,18 @@ def conversion(role: str, unit: str, every: str) -> tuple[Fraction, str]:
     return share, f"{unit} to shares"
 
 
-def factors_of(columns: Mapping[str, Column], every: str) -> dict[str, Fraction]:
+def factors_of(columns: Mapping[str, SourceColumn], every: str) -> dict[str, Fraction]:
     """Returns by what the numbers of each column with a unit are multiplied, by role."""
     units = {role: column.unit for role, column in columns.items() if column.unit}
     return {role: conversion(role, units[role], every)[0] for role in units}
 
 
-def is_converted(column: Column, every: str) -> bool:
+def is_converted(column: SourceColumn, every: str) -> bool:
     """Returns whether the numbers of a column are converted from its unit."""
     return column.unit not in ("", "period", every)
 
 
-def converted(column: Column, role: str, every: str) -> str:
+def converted(column: SourceColumn, role: str, every: str) -> str:
     """Returns how the numbers of a column are converted from its unit."""
     return f"column {column.name!r}: {role}: converted from {conversion(role, column.unit, every)[1]}"
 
@@ -185,7 +185,7 @@ class Finder:
             own = map(plain_name, more.get(role, ()))
             for name in (*usual_names(kind, role), *own):
                 self.role_of.setdefault(name, role)
-        self.columns: dict[str, Column] = {}
+        self.columns: dict[str, SourceColumn] = {}
         self.wrong: list[Remark] = []
 
     def _match(self, plain: str) -> Match:
@@ -221,7 +221,9 @@ class Finder:
         )
         return bool(wide) and not is_stated and [*wide][0] not in self.columns
 
-    def find(self, heading: Sequence[str]) -> tuple[dict[str, Column], list[Remark]]:
+    def find(
+        self, heading: Sequence[str]
+    ) -> tuple[dict[str, SourceColumn], list[Remark]]:
         """Returns the column of each role that the heading has, and what is wrong. Names are compared whole first, for
         all roles, so that no column with the very name of one role goes to another one.
         """
@@ -259,7 +261,7 @@ class Finder:
             names = " and ".join(repr(heading[place]) for place in places)
             self._refuse(TWO_COLUMNS, role, names=names)
         elif places:
-            self._add(role, Column(heading[places[0]], places[0], True))
+            self._add(role, SourceColumn(heading[places[0]], places[0], True))
         elif unclear:
             for place, words in unclear.items():
                 unknown = ", ".join(map(repr, words))
@@ -334,7 +336,7 @@ class Finder:
                 unknown.append(word)
         return unknown
 
-    def _unit(self, role: str, column: Column, currency: str) -> str:
+    def _unit(self, role: str, column: SourceColumn, currency: str) -> str:
         """Returns the unit that the heading of a column says beside the name of its role, perhaps empty, and says what is
         wrong if it says several."""
         plain = self.plain[column.place]
@@ -362,7 +364,7 @@ class Finder:
             return "money" if kind == "size" else currency
         return next(iter(left), "")
 
-    def _add(self, role: str, column: Column) -> None:
+    def _add(self, role: str, column: SourceColumn) -> None:
         """Adds the column of a role with its unit: the stated one, else that of its heading; and with the currency that
         this says."""
         stated = self.units.get(role)
@@ -401,12 +403,12 @@ def listed(heading: Sequence[str]) -> str:
 
 def stated_columns(
     heading: Sequence[str], names: Mapping[str, str]
-) -> tuple[dict[str, Column], list[Remark]]:
+) -> tuple[dict[str, SourceColumn], list[Remark]]:
     """Returns the columns that are stated for roles, and what is wrong with those that a heading doesn't have once. A
     heading may name packs of so many items, and a time of lead times, beside another word. Other units are the item's own,
     as kilograms.
     """
-    columns = dict[str, Column]()
+    columns = dict[str, SourceColumn]()
     wrong = list[Remark]()
     for role, name in names.items():
         count = heading.count(name)
@@ -423,7 +425,7 @@ def stated_columns(
                 said = " and ".join(repr(units[unit]) for unit in sorted(known))
                 wrong.append(Remark(SEVERAL, {"name": name, "units": said}))
             unit = next(iter(known), "")
-            columns[role] = Column(name, heading.index(name), unit=unit)
+            columns[role] = SourceColumn(name, heading.index(name), unit=unit)
     return columns, wrong
 
 

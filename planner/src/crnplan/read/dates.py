@@ -34,9 +34,8 @@ from .date_forms import (
     written,
 )
 from .month_names import months_of, plain_month
-from .turned_dates import interchanged, turned
+from .turned_dates import Day as Day, interchanged, turned
 
-Day = datetime.date
 EVERY = ("day", "week", "month")
 EPOCH = Day(1970, 1, 1).toordinal()
 FIRST_YEAR, LAST_YEAR = 1980, 2199

@@ -99,7 +99,7 @@ class FiledTable:
 
 
 @dataclass(frozen=True)
-class Part:
+class CataloguePart:
     """The tables of a part of the items, by kind, with where their rows are."""
 
     tables: Mapping[str, tuple[Sheet, list[Piece]]]
@@ -107,7 +107,7 @@ class Part:
     @classmethod
     def of(
         cls, tables: Mapping[str, FiledTable], number: int, kinds: Iterable[str]
-    ) -> Part:
+    ) -> CataloguePart:
         """Returns the part of a number of some of the tables."""
         return cls(
             {kind: (tables[kind].sheet, tables[kind].pieces(number)) for kind in kinds}
@@ -198,7 +198,7 @@ def currencies_of(table: FiledTable, stated: str) -> dict[str, str]:
 
 
 @dataclass(frozen=True)
-class Whole:
+class WholeTables:
     """What all rows say together: how the dates of each table are read, and the amounts and times of each column; the
     currencies of the masters, each with its text; the record; the classes that masters state; and the sums of their
     columns, by role."""
@@ -212,7 +212,7 @@ class Whole:
     sums: Mapping[str, Fraction]
 
     @classmethod
-    def of(cls, tables: Mapping[str, FiledTable], words: Reading) -> Whole:
+    def of(cls, tables: Mapping[str, FiledTable], words: Reading) -> WholeTables:
         """Looks at all tables. Raises Refused if the record has no day, or too many, and RefusedFaults if dates can't be
         read."""
         dates = {kind: date_reader(table) for kind, table in tables.items()}

@@ -10,7 +10,7 @@ from .blocks import DATES
 from .cells import Unreadable, on_one_line, text_of
 from .columns import ROLES
 from .dates import DateReader
-from .filed import FiledTable, Whole
+from .filed import FiledTable, WholeTables
 from .items import Reading
 from .sources import TextSheet
 from .times import TimeReader
@@ -23,7 +23,7 @@ SIDES = {
 
 
 def found_of(
-    tables: Mapping[str, FiledTable], whole: Whole, words: Reading
+    tables: Mapping[str, FiledTable], whole: WholeTables, words: Reading
 ) -> dict[str, Any]:
     """Returns what was found in the tables, of which `Catalogue.found` makes lines of crnplan.toml."""
     record = whole.record
@@ -49,14 +49,14 @@ def found_of(
     }
 
 
-def _readers(whole: Whole, kind: str) -> dict[str, AmountReader | TimeReader]:
+def _readers(whole: WholeTables, kind: str) -> dict[str, AmountReader | TimeReader]:
     """Returns what reads the amounts of a table, and the times of masters, by role."""
     amounts = {role: whole.amounts[role] for role in AMOUNTS[kind]}
     return {**amounts, **whole.times} if kind == "items" else {**amounts}
 
 
 def _written(
-    table: FiledTable, whole: Whole, kind: str, words: Reading
+    table: FiledTable, whole: WholeTables, kind: str, words: Reading
 ) -> dict[str, Any]:
     """Returns how a table is written, as far as that is not stated of all files, and all of its files say the same."""
     texts = [file for file in table.sheet.files if isinstance(file, TextSheet)]
@@ -92,7 +92,7 @@ def _date_forms(table: FiledTable, reader: DateReader) -> tuple[list[list[Any]],
     return sorted(forms.values()), unclear
 
 
-def _table_facts(table: FiledTable, whole: Whole, kind: str) -> dict[str, Any]:
+def _table_facts(table: FiledTable, whole: WholeTables, kind: str) -> dict[str, Any]:
     """Returns how a table is written, its columns, its first rows, its dates, and the signs of its amounts."""
     sheet, dates = table.sheet, whole.dates[kind]
     unused = [

@@ -10,7 +10,7 @@ from ..formats import MOST_DEMAND
 from ..law import Law
 from ..remarks import Remark
 from ..store.stored import columns_of
-from .bounds import Bounds
+from .bounds import OrderBounds
 from .overrides import DO_NOT_ORDER, Override
 
 # What an item's record says of its past: enough; too little, so that others say what to expect; that nothing was asked
@@ -90,7 +90,7 @@ class Item:
     returns: tuple[int, ...] = ()
     group: str = ""
     borrow: str = ""
-    bounds: Bounds = Bounds()
+    bounds: OrderBounds = OrderBounds()
     past: str = USUAL
     law: Law | None = None
     override: Override | None = None

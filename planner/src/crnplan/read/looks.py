@@ -22,7 +22,7 @@ from .headings import columns_in, find_heading
 from .items import Reading
 from .law_forms import LAWS
 from .opening import opened
-from .sources import Column, Sheet
+from .sources import SourceColumn, Sheet
 
 SEEN_ROWS = 5
 ONE_LIKELY = "likely encodings 1"  # the code of what is said of bytes in such a one
@@ -51,7 +51,7 @@ class Look:
     source: str = ""
     heading: Sequence[str] = ()
     rows: Sequence[Sequence[str]] = ()
-    columns: Mapping[str, Column] = field(default_factory=dict)
+    columns: Mapping[str, SourceColumn] = field(default_factory=dict)
     faults: Sequence[Fault] = ()
     wrong: Sequence[Fault] = ()
     is_wide: bool = False

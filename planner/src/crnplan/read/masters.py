@@ -11,7 +11,7 @@ from typing import Any, NamedTuple
 from ..money import MOST_DECIMALS
 from ..remarks import Value
 from .amounts import AMOUNTS, KINDS, PERCENT
-from .bounds import Bounds
+from .bounds import OrderBounds
 from .cells import UNPRINTABLE, Cell, CellFault, Unreadable, fault, shown
 from .columns import (
     DAYS,
@@ -23,7 +23,7 @@ from .columns import (
 )
 from .dates import period_of
 from .defaults import DEFAULT, MASTERS, ORDERS, currency_in, distinct
-from .filed import SPANS, Whole
+from .filed import SPANS, WholeTables
 from .item import BORROW, Item, value_of
 from .items import Reading
 from .leads import counts_receipts, leads_from
@@ -65,7 +65,7 @@ class Master(NamedTuple):
 class Masters:
     """Reads the rows of masters, with the unit of each column, and what holds if they say nothing."""
 
-    def __init__(self, table: TableReader, whole: Whole, words: Reading) -> None:
+    def __init__(self, table: TableReader, whole: WholeTables, words: Reading) -> None:
         self.table = table
         self.whole = whole
         self.words = words
@@ -266,13 +266,13 @@ class Masters:
             return None
         return Fraction(sum(leads), len(leads)) * DAYS[self.words.every]
 
-    def _bounds(self, read: Values, price: Fraction | None) -> Bounds:
+    def _bounds(self, read: Values, price: Fraction | None) -> OrderBounds:
         """Returns the bounds of an item with a price, by the values of its row without units. A 0 of a system states
         none but for s."""
         least = read["order_min"] or None
         if least and price and self.is_money:
             least /= price
-        return Bounds(
+        return OrderBounds(
             int(read["pack"] or 1),
             least and math.ceil(least),
             None if read["s_min"] is None else int(read["s_min"]),

@@ -31,7 +31,7 @@ def is_marked(cell: Cell) -> bool:
     return mark
 
 
-class Moves(NamedTuple):
+class Movements(NamedTuple):
     """The movements of an item in the order of their rows: lines, periods, amounts asked for and back, 1 for rows that
     say a period and no amount, and 1 for rows of a promotion."""
 
@@ -43,11 +43,11 @@ class Moves(NamedTuple):
     marked: Numbers
 
     @property
-    def known(self) -> Moves:
+    def known(self) -> Movements:
         """Returns the movements with an amount."""
         if not self.blank.any():
             return self
-        return Moves(*(values[self.blank == 0] for values in self))
+        return Movements(*(values[self.blank == 0] for values in self))
 
     def promoted_places(self, first: int, count: int) -> set[int]:
         """Returns the places of the periods with a row of a promotion, of so many from one on."""

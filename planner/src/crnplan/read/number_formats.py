@@ -15,7 +15,7 @@ from decimal import Decimal
 from .amounts import MINUS
 from .cells import Cell, Shown
 
-Number = int | float
+CellNumber = int | float
 # The digits that Excel keeps of a number. What stands behind them comes from its arithmetic.
 DIGITS = 15
 # The parts of a format: a text in quotes, a letter behind a backslash, what is in brackets, a blank as wide as a letter,
@@ -137,7 +137,7 @@ class Section:
         else:
             self.before += text
 
-    def holds_for(self, number: Number) -> bool:
+    def holds_for(self, number: CellNumber) -> bool:
         """Returns whether the section is for a number, by its condition."""
         if self.condition is None:
             return True
@@ -157,7 +157,7 @@ def sections_of(code: str) -> list[Section]:
     return [Section(own, not place) for place, own in enumerate(parts[:3])]
 
 
-def number_of(text: str) -> Number | str:
+def number_of(text: str) -> CellNumber | str:
     """Returns a number that a workbook stores, as exactly as Excel keeps it; the text itself if it is none."""
     if text.isdecimal():
         return int(text)
@@ -168,7 +168,7 @@ def number_of(text: str) -> Number | str:
     return rounded(number) if number == number else text
 
 
-def rounded(number: float) -> Number:
+def rounded(number: float) -> CellNumber:
     """Returns a number with the digits that Excel keeps, a whole one as such."""
     kept = float(f"{number:.{DIGITS}g}")
     return int(kept) if kept.is_integer() else kept
@@ -182,7 +182,7 @@ class Format:
         self.sections = sections_of(code)
         self.epoch = epoch
 
-    def cell(self, number: Number) -> Cell:
+    def cell(self, number: CellNumber) -> Cell:
         """Returns what a reader sees of a number: a date, the number, the number with what is shown beside it, or a text
         if it has leading zeros, or shows no digit. One below 0 whose sign is not shown has both readings.
         """
@@ -204,7 +204,7 @@ class Format:
             return value
         return Shown(section.before, spelt(value), section.behind)
 
-    def _section(self, number: Number) -> Section:
+    def _section(self, number: CellNumber) -> Section:
         """Returns the section that is for a number."""
         if any(section.condition for section in self.sections):
             fitting = (part for part in self.sections if part.holds_for(number))
@@ -212,7 +212,7 @@ class Format:
         place = 1 if number < 0 else 2 * (number == 0)
         return self.sections[place] if place < len(self.sections) else self.sections[0]
 
-    def _date(self, number: Number, section: Section) -> Cell:
+    def _date(self, number: CellNumber, section: Section) -> Cell:
         """Returns the date of a number of days; a text if it is none."""
         from openpyxl.utils.datetime import from_excel
 
@@ -225,12 +225,12 @@ class Format:
         return date.date() if isinstance(date, datetime.datetime) else ZERO_DATE
 
 
-def spelt(number: Number) -> str:
+def spelt(number: CellNumber) -> str:
     """Returns a number in full with the point as its decimal sign."""
     return format(Decimal(repr(number)), "f")
 
 
-def padded(number: Number, section: Section) -> str:
+def padded(number: CellNumber, section: Section) -> str:
     """Returns the digits of a whole number with the zeros before it, and the letters between, that a section has; the
     empty text if it has none, or the number is not whole."""
     if not isinstance(number, int) or section.zeros < 2 and not section.places:

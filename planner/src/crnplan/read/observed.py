@@ -1,7 +1,6 @@
 """Has the record of a table of demand, and sums of its amounts by period."""
 from __future__ import annotations
 
-import datetime
 import functools
 from collections.abc import Mapping, Sequence
 from dataclasses import dataclass
@@ -17,10 +16,9 @@ from ..toml.documents import shown
 from ..vocabulary import read_argument
 from ..words import message
 from .cells import Numbers, Unreadable
-from .dates import DateReader, period_of
+from .dates import DateReader, Day as Day, period_of
 from .frames import cell_of
 
-Day = datetime.date
 # A row so many days away from the rest, if at most one row in so many is, has a wrong date.
 FAR_DAYS, RARE = 366, 1_000
 # An item that is first seen after so many periods begins at its first movement.

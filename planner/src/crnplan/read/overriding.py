@@ -30,7 +30,7 @@ from .several import open_tables
 from .tables import TableReader
 
 OVERRIDES = "overrides"  # the kind of the table
-Stated = Mapping[str, Override | None]
+StatedOverrides = Mapping[str, Override | None]
 
 
 def overrides_in(table: TableReader) -> dict[str, tuple[int, Override | None]]:
@@ -64,7 +64,7 @@ def overrides_in(table: TableReader) -> dict[str, tuple[int, Override | None]]:
 
 def read_overrides(
     table: Table | None, words: Reading
-) -> tuple[Stated, dict[str, Reject]]:
+) -> tuple[StatedOverrides, dict[str, Reject]]:
     """Returns what a table sets by item, None for an item of which nothing is set any longer; and by item what is to be
     said if no such item is in the catalogue. Raises Refused and RefusedFaults."""
     rejects = list[Reject]()
@@ -81,7 +81,7 @@ def read_overrides(
 
 def put_overrides(
     folder: Folder,
-    stated: Stated,
+    stated: StatedOverrides,
     unknown: Mapping[str, Reject],
     earlier: Mapping[str, Override | None],
 ) -> None:

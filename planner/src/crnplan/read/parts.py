@@ -10,17 +10,17 @@ from fractions import Fraction
 from pathlib import Path
 
 from ..store.jobs import Workers
-from ..store.stored import Columns, quoted
+from ..store.stored import StoredColumns, quoted
 from .choosing import split_items
 from .classes import abc_of
 from .controls import Controls
-from .filed import FiledTable, Part, Whole
+from .filed import FiledTable, CataloguePart, WholeTables
 from .item import Item
 from .items import Reject, Reading
 from .reader import Reader
 from .repeated import Shared, names_apart, shared_in
 
-ITEM, REJECT = Columns(Item), Columns(Reject)
+ITEM, REJECT = StoredColumns(Item), StoredColumns(Reject)
 ADD_ITEM, ADD_REJECT = ITEM.insert("items"), REJECT.insert("rejects")
 REPLACE_ITEM = ADD_ITEM.replace("INSERT", "REPLACE", 1)
 # The file has no other use if the process ends before it is whole.
@@ -48,13 +48,19 @@ class PartRead:
     decimals: int
 
 
-def values_of_part(part: Part, words: Reading, whole: Whole) -> list[Fraction | None]:
+def values_of_part(
+    part: CataloguePart, words: Reading, whole: WholeTables
+) -> list[Fraction | None]:
     """Returns the value of the mean demand of each item of a part, in order of names."""
     return Reader(part.rows(), words, whole).values()
 
 
 def items_of_part(
-    part: Part, words: Reading, whole: Whole, letters: Sequence[str], path: Path
+    part: CataloguePart,
+    words: Reading,
+    whole: WholeTables,
+    letters: Sequence[str],
+    path: Path,
 ) -> PartRead:
     """Writes the items of a part, with their classes in order of names, into a new file."""
     with contextlib.closing(sqlite3.connect(path)) as base:
@@ -80,7 +86,7 @@ def items_of_part(
 
 def read_parts(
     tables: Mapping[str, FiledTable],
-    whole: Whole,
+    whole: WholeTables,
     words: Reading,
     workers: Workers,
     room: Path,
@@ -88,7 +94,7 @@ def read_parts(
 ) -> list[PartRead]:
     """Returns what was read of each of so many parts, whose files stand in a folder. The classes of items by value
     depend on all of them. Raises Refused for stated classes that there are not."""
-    parts = [Part.of(tables, number, tables) for number in range(count)]
+    parts = [CataloguePart.of(tables, number, tables) for number in range(count)]
     values = [
         *workers.in_order(values_of_part, ((part, words, whole) for part in parts))
     ]
@@ -99,7 +105,7 @@ def read_parts(
                 known[number, place] = value
     classes = abc_of(known, words.abc)
     words.check_classes(whole.groups if any(whole.groups) else {*classes.values()})
-    asked = list[tuple[Part, Reading, Whole, list[str], Path]]()
+    asked = list[tuple[CataloguePart, Reading, WholeTables, list[str], Path]]()
     for number, part in enumerate(parts):
         letters = [
             classes.get((number, place), "") for place in range(len(values[number]))

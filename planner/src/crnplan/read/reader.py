@@ -16,12 +16,12 @@ from .choosing import named_values, places_of
 from .controls import Controls, controls_of, together
 from .dates import period_name, periods_of_days
 from .defaults import LEAVE_OUT
-from .filed import Whole
+from .filed import WholeTables
 from .item import PHASE_OUT, STOPPED, Item, overridden, some
 from .items import OUTSIDE, Left, Reject, Reading
 from .leads import remark_on
 from .masters import Master, Masters
-from .moves import Moves, is_marked, places_of_spans, unread_in
+from .moves import Movements, is_marked, places_of_spans, unread_in
 from .observed import summed, sums_of
 from .law_forms import LAWS
 from .quiet import quiet_remark
@@ -44,7 +44,7 @@ class Reader:
         self,
         rows: Mapping[str, Rows],
         words: Reading,
-        whole: Whole,
+        whole: WholeTables,
         add: Callable[[Reject], None] | None = None,
     ) -> None:
         """Finds the movements of items in the rows, which may be those of a part of the items. What is left out or
@@ -195,7 +195,7 @@ class Reader:
             for table in self.tables.values()
         )
 
-    def _moves(self) -> tuple[Callable[[int], Moves], set[int]]:
+    def _moves(self) -> tuple[Callable[[int], Movements], set[int]]:
         """Returns the function that gives the movements of an item, and the items of totals alone. Rows with faults,
         and twins if they are to be left out, are rejected."""
         demand = self.demand
@@ -229,7 +229,7 @@ class Reader:
         self.numbers.update(counts)
         facts = np.stack([rows.lines, periods, asked, back, blank, marked])
         moves = rows.by_item(good, facts)
-        return lambda item: Moves(*moves(item)), totals
+        return lambda item: Movements(*moves(item)), totals
 
     def _reject_moves(self, bad: Numbers) -> set[int]:
         """Rejects rows of demand with what is wrong with their cells, and returns the items that are no items: those of
@@ -281,7 +281,7 @@ class Reader:
         return good
 
     def _item(
-        self, code: int, moves: Moves, leads: Sequence[int], receipts: Sequence[int]
+        self, code: int, moves: Movements, leads: Sequence[int], receipts: Sequence[int]
     ) -> Item:
         """Returns an item by its code, with what its orders took in periods and in days. Raises Left."""
         self._check_measures(code)
@@ -337,7 +337,7 @@ class Reader:
         gaps = places_of_spans(self.gaps_of(code), first, count)
         return gaps, places_of_spans(self.outages_of(code), first, count) - gaps
 
-    def _note_unknown(self, item: Item, moves: Moves) -> None:
+    def _note_unknown(self, item: Item, moves: Movements) -> None:
         """Counts the promoted and the unknown periods of an item, and names the rows that leave these so, if no word says
         that they do."""
         counted = {"promoted": item.promoted, "unknown": item.unknown, "cut": item.cut}
@@ -391,7 +391,7 @@ class Reader:
         if late:
             yield late
 
-    def _first(self, since: int | None, moves: Moves) -> int:
+    def _first(self, since: int | None, moves: Movements) -> int:
         """Returns where the history of an item begins: in the period since when its master has it, which may be behind the
         record, or earlier if it was seen then. Without that as it is seen first, and with the record if it never is.
         """
@@ -401,7 +401,7 @@ class Reader:
             return min(max(min([since, *seen]), periods.start), periods.stop)
         return self.record.first_of(seen[0]) if seen else periods.start
 
-    def _counts(self, moves: Moves, first: int) -> tuple[list[int], list[int], int]:
+    def _counts(self, moves: Movements, first: int) -> tuple[list[int], list[int], int]:
         """Returns demand and returns by period from one on, and how many amounts were taken off earlier periods. Raises
         Left."""
         periods = self.record.periods.stop - first
@@ -441,7 +441,7 @@ class Reader:
             wrong = fault("measure", last, "measures", measures=measures, text=last)
             raise Left("demand", lines[last], wrong)
 
-    def _master(self, item: int, leads: Sequence[int], moves: Moves) -> Master:
+    def _master(self, item: int, leads: Sequence[int], moves: Movements) -> Master:
         """Returns the master of an item, whose orders took some lead times. Raises Left."""
         name = self.names[item]
         rows = self.masters_of(item)
@@ -487,7 +487,7 @@ class Reader:
             code not in wrong or wrong[code].code not in OUTSIDE for code in codes
         )
 
-    def _check_far(self, moves: Moves) -> None:
+    def _check_far(self, moves: Movements) -> None:
         """Raises Left if some amounts are far above all others, as if counted a thousand times too large."""
         if self.words.far != LEAVE_OUT:
             return

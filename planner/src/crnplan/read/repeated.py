@@ -14,7 +14,7 @@ from .sources import FILE_BITS, Sheet
 
 if TYPE_CHECKING:
     from .amounts import AmountReader
-    from .rows import Rows, Table
+    from .rows import Rows, KeptTable
 
 # The columns of masters of which a total has the sum.
 ADDED = ("stock", "s", "S", "price", "setup", "holding", "backlog", "pack", "order_min")
@@ -96,7 +96,7 @@ def zeros_apart(parts: Iterable[Mapping[bool, Sequence[str]]]) -> Iterator[Remar
 
 
 def sums_of_columns(
-    masters: Table, readers: Mapping[str, AmountReader]
+    masters: KeptTable, readers: Mapping[str, AmountReader]
 ) -> dict[str, Fraction]:
     """Returns the sums of those columns of masters that have any value."""
     sums = dict[str, Fraction]()

@@ -13,7 +13,7 @@ import numpy.typing as npt
 
 from ..remarks import Remark
 from .amounts import AmountReader
-from .blocks import DATES, Block, Codes, Column, read_blocks
+from .blocks import DATES, Block, Codes, CodedColumn, read_blocks
 from .cells import Cell, CellFault, Flags, Numbers, fault
 from .columns import counts_items
 from .dates import DateReader
@@ -67,9 +67,11 @@ class Rows:
                 arrays.append(getattr(block, name))
         for name, arrays in joined.items():
             setattr(self, name, np.concatenate(arrays))
-        self.columns = dict[str, Column]()
+        self.columns = dict[str, CodedColumn]()
         for role, known in values.items():
-            self.columns[role] = Column(np.concatenate(codes[role]), known.distinct)
+            self.columns[role] = CodedColumn(
+                np.concatenate(codes[role]), known.distinct
+            )
 
     def __len__(self) -> int:
         return len(self.lines)
@@ -175,7 +177,7 @@ def rows_of(sheet: Sheet) -> Rows:
     return Rows(sheet, blocks())
 
 
-class Table(Protocol):
+class KeptTable(Protocol):
     """A table with how many of its good rows have each value of a column."""
 
     sheet: Sheet
@@ -184,7 +186,7 @@ class Table(Protocol):
         ...
 
 
-def date_reader(table: Table, amounts: Collection[str] = ()) -> DateReader:
+def date_reader(table: KeptTable, amounts: Collection[str] = ()) -> DateReader:
     """Returns what reads the dates of a table, after a look at all of them. Roles of amounts are no dates."""
     rules = table.sheet.rules
     reader = DateReader(rules.date_formats, rules.every, rules.day_first)
@@ -196,7 +198,7 @@ def date_reader(table: Table, amounts: Collection[str] = ()) -> DateReader:
 
 
 def amount_reader(
-    table: Table, role: str, currencies: dict[str, str] | None = None
+    table: KeptTable, role: str, currencies: dict[str, str] | None = None
 ) -> AmountReader:
     """Returns what reads the amounts of a column, after a look at all of them."""
     counts = counts_items(role, table.sheet.columns.get(role))

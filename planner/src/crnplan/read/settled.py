@@ -14,7 +14,7 @@ from ..errors import Fault, RefusedFaults
 from ..remarks import Remark, Value
 from .cells import Cell, Unreadable
 from .columns import DAYS
-from .filed import FiledTable, Part, Whole
+from .filed import FiledTable, CataloguePart, WholeTables
 from .rows import Rows
 from .tables import TableReader
 from .times import TimeReader
@@ -39,7 +39,7 @@ def bare_time(reader: TimeReader, cell: Cell) -> Fraction | None:
 
 
 def seen_times(
-    rows: Mapping[str, Rows], whole: Whole
+    rows: Mapping[str, Rows], whole: WholeTables
 ) -> Iterator[tuple[Fraction, list[int]]]:
     """Yields the bare lead time of each item of a part that has one and receipts, with the days that these took."""
     items = rows["items"]
@@ -65,13 +65,13 @@ def unit_of(stated: Fraction, days: list[int]) -> str:
 
 
 def agreed_unit(
-    tables: Mapping[str, FiledTable], whole: Whole, parts: int
+    tables: Mapping[str, FiledTable], whole: WholeTables, parts: int
 ) -> tuple[str, int, int]:
     """Returns the unit with which receipts agree, empty if there is none; and of how many items with receipts."""
     agreeing = Counter[str]()
     receipts = 0
     for number in range(parts):
-        part = Part.of(tables, number, ("items", "orders"))
+        part = CataloguePart.of(tables, number, ("items", "orders"))
         for stated, days in seen_times(part.rows(), whole):
             agreeing[unit_of(stated, days)] += 1
             receipts += len(days)
@@ -84,7 +84,7 @@ def agreed_unit(
 
 
 def settle_times(
-    tables: Mapping[str, FiledTable], whole: Whole, parts: int
+    tables: Mapping[str, FiledTable], whole: WholeTables, parts: int
 ) -> list[Remark]:
     """Gives the column of lead times the unit with which receipts agree, if it has none, and returns what is to be said of
     it. If some cells have a unit, those without are left to be rejected. Raises RefusedFaults for columns of times

@@ -53,7 +53,7 @@ ESCAPES, ESCAPED = "crnplan.escapes", re.compile("[\udc00-\udcff]")
 
 
 @dataclass(frozen=True)
-class Column:
+class SourceColumn:
     """A column of a table: its name in the heading, its place from 0, whether it was found by its name alone, and its
     unit, empty if that is the one of its role. `counts` is the unit that is stated or named, whichever it is, and
     `currency` the one that its name says."""
@@ -75,7 +75,7 @@ class Mark(NamedTuple):
     """A column that chooses the rows of a table, which have one of the wanted texts in it, or that is watched for its
     use: what it says of a row."""
 
-    column: Column
+    column: SourceColumn
     use: str = ""
     wanted: frozenset[str] = frozenset()
 
@@ -286,7 +286,7 @@ class Sheet:
         self.path = path
         self.file_name = Path(name).name
         self.state = state_of(path)
-        self.columns = dict[str, Column]()
+        self.columns = dict[str, SourceColumn]()
         self.marks = dict[str, Mark]()
         self.size = self.state[0]  # about, in bytes
 

@@ -12,7 +12,7 @@ import numpy.typing as npt
 
 from ..remarks import Remark, joined
 from .amounts import AMOUNTS, AmountReader
-from .blocks import Column
+from .blocks import CodedColumn
 from .cells import Cell, CellFault, Flags, Numbers, Unreadable, on_one_line, text_of
 from .columns import factors_of
 from .dates import DateReader
@@ -91,7 +91,7 @@ class TableReader:
 
     def read(
         self, role: str, read: Callable[[Cell], Any], default: Any = None
-    ) -> Column:
+    ) -> CodedColumn:
         """Reads the cells of a column, each distinct one once; one that can't be read has the default. Returns the column."""
         column = self.rows.columns[role]
         self.values[role], self.wrong[role] = values_of(column.distinct, read, default)

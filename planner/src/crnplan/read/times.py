@@ -8,13 +8,13 @@ from collections.abc import Collection, Iterator, Mapping, Sequence
 from fractions import Fraction
 
 from ..formats import MOST_LEAD
-from .amounts import DECIMALS, Amount, ColumnReader, amounts_of
+from .amounts import DECIMALS, ReadAmount, ColumnReader, amounts_of
 from .cells import Cell, Unreadable
 from .columns import DAYS, conversion, periods_of
 
 # A time is a sum of numbers, each with its unit, empty for that of the column. A cell is read as some times.
-Part = tuple[Fraction, str]
-Time = tuple[Part, ...]
+TimePart = tuple[Fraction, str]
+Time = tuple[TimePart, ...]
 Times = tuple[Time, ...]
 PERIOD = "period"  # the unit of numbers that count periods of the plan
 # What stands between the lead times of a list, and the commas that may do so by the decimal sign.
@@ -26,7 +26,7 @@ COMMAS = {".": (COMMA_AND_BLANK, COMMA), ",": (COMMA_AND_BLANK,)}
 BETWEEN = re.compile(r"(?<=[^\W\d_])\s*(?=[0-9])|(?<=[0-9])\s+(?=[0-9])")
 
 
-def part_of(text: str, decimal: str, is_listed: bool) -> Part | None:
+def part_of(text: str, decimal: str, is_listed: bool) -> TimePart | None:
     """Returns the number and the unit of a text by a decimal sign; None if it has none. A number of a list neither is 0
     nor begins with one, as 5 in 12,05."""
     amount = amounts_of(text).get(decimal)
@@ -37,7 +37,7 @@ def part_of(text: str, decimal: str, is_listed: bool) -> Part | None:
     return amount.number, amount.unit
 
 
-def parts_of(texts: Sequence[str], decimal: str) -> list[Part]:
+def parts_of(texts: Sequence[str], decimal: str) -> list[TimePart]:
     """Returns the numbers and units of the texts of a list, without those that have none."""
     parts = (part_of(text, decimal, True) for text in texts)
     return [part for part in parts if part is not None]
@@ -124,7 +124,7 @@ class TimeReader(ColumnReader[Times]):
             for number, unit in time:
                 total += number
                 ending = "s" * (unit in DAYS and number != 1)
-                words.append(Amount(number, unit=unit + ending).text)
+                words.append(ReadAmount(number, unit=unit + ending).text)
             texts.append(" ".join(words))
         return total, " and ".join(texts)
 

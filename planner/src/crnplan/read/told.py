@@ -8,10 +8,10 @@ import copy
 from collections.abc import Mapping
 from typing import Any, TypeVar
 
+from ..toml.documents import Tree
 from ..vocabulary import Vocabulary, plain, words_in
 from .columns import ROLES
 
-Tree = dict[str, Any]
 Made = TypeVar("Made", bound=Vocabulary)
 COLUMNS = "columns"  # the word whose values are tables of their own, by their files
 BY_PLACE = "units", "names"  # the words of values by FILE.ROLE

@@ -22,7 +22,7 @@ from .sources import (
     CELLS_NAME,
     HEADINGS_NAME,
     UNKNOWN,
-    Column,
+    SourceColumn,
     Row,
     Sheet,
     refused,
@@ -152,7 +152,8 @@ class WideSheet(Sheet):
         for column in self.columns.values():
             places += self.fixed[column.place : column.place + 1]
         self.sheet.columns = {
-            str(place): Column(self.sheet.heading[place], place) for place in places
+            str(place): SourceColumn(self.sheet.heading[place], place)
+            for place in places
         }
 
     def check(self) -> None:
@@ -236,7 +237,9 @@ def turned_sheet(sheet: Sheet, place: int) -> WideSheet | None:
     """
     names = enumerate(sheet.heading)
     others = [column for column, name in names if name and column != place]
-    sheet.columns = {str(it): Column(sheet.heading[it], it) for it in (place, *others)}
+    sheet.columns = {
+        str(it): SourceColumn(sheet.heading[it], it) for it in (place, *others)
+    }
     rows = [
         (line, cells)
         for line, cells in sheet.rows()

@@ -8,7 +8,7 @@ from typing import NamedTuple
 from ..plan.backtest.catalogue import Tested
 from ..plan.backtest.one import Backtest
 from ..plan.backtest.methods import KEPT, REFITTED, SEASONAL, SMOOTHED
-from ..plan.backtest.sums import BLOCK, Group, Sums, moves_of, sides_of, summed
+from ..plan.backtest.sums import BLOCK, TestGroup, Sums, moves_of, sides_of, summed
 from ..read.item import Item
 from .backtest_tables import class_rows, first_line, side_rows
 from ..drawing.plots import Line, Plot, Scale, bars, marks_of, path_of
@@ -113,7 +113,7 @@ def curve_plot(tests: Sequence[Backtest], promised: float) -> Plot:
 
 def time_plot(tests: Sequence[Backtest], promised: float, every: str) -> Plot:
     """Returns the share of demand that was met at once in time, by blocks of periods, with what was promised."""
-    group = Group(tests)
+    group = TestGroup(tests)
     shares: dict[str, list[float]] = {}
     for policy in IN_TIME:
         if not getattr(tests[0], policy):  # of no item: see `Backtest`

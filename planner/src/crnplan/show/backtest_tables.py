@@ -27,7 +27,7 @@ BACKTEST, SUMS, SUMMARY, PAGE = (
 SHUFFLED = "shuffled"
 
 
-class Row(NamedTuple):
+class BacktestRow(NamedTuple):
     """An item with its test, or with why it has none."""
 
     item: Item
@@ -35,7 +35,7 @@ class Row(NamedTuple):
     why: Remark | None
 
     @classmethod
-    def of(cls, item: Item, test: Backtest | Remark) -> Row:
+    def of(cls, item: Item, test: Backtest | Remark) -> BacktestRow:
         if isinstance(test, Remark):
             return cls(item, None, test)
         return cls(item, test, None)
@@ -85,7 +85,7 @@ SUM_COLUMNS = _columns("backtest_sums", CODES, BESIDE_ITSELF)
 
 def backtest_of(tested: Tested) -> DataTable:
     """Returns the tests by item. An item without one has the reason."""
-    rows = [Row.of(item, test) for item, test in tested.items]
+    rows = [BacktestRow.of(item, test) for item, test in tested.items]
     return DataTable.of(BACKTEST_COLUMNS, rows, tested.decimals, "", keys=tested.keys)
 
 

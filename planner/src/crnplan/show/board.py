@@ -10,7 +10,7 @@ from typing import NamedTuple
 
 from ..plan.answer import CHOSEN, SAME, TODAY
 from ..plan.catalogue import PlannedFolder
-from ..plan.drawn import Estimate
+from ..plan.drawn import EstimatedSum
 from ..plan.survey import Survey
 from ..plan.totals import Totals
 from ..plan.swings import LEAST_ERROR, CaseSum, Swings, kept_swings
@@ -33,7 +33,7 @@ MOST_TIMES = 1_000  # as much as the largest saving may a cost be in the unit of
 LEAST_SERVICE = 5.0  # percent, by which the axis of service begins below the least one
 
 
-class Row(NamedTuple):
+class ClassRow(NamedTuple):
     """A class: its items with a policy today, what a year saves, and with today's levels and the new ones the share of
     demand met at once, None if it is not known, and the value of the mean stock."""
 
@@ -46,7 +46,7 @@ class Row(NamedTuple):
     @classmethod
     def of(
         cls, name: str, sums: Sequence[Totals], periods: float, by_value: bool
-    ) -> Row:
+    ) -> ClassRow:
         """Returns the row of one class, or of several together."""
 
         def added(part: str) -> float:
@@ -61,7 +61,7 @@ class Row(NamedTuple):
         return cls(name, items, periods * added("saving"), tuple(fills), tuple(values))
 
 
-class Picture(NamedTuple):
+class ServicePicture(NamedTuple):
     """Service in percent and stock before and after: the scales of both, the latter in so much of money."""
 
     service: Scale
@@ -77,7 +77,7 @@ class Picture(NamedTuple):
         return self.stock.at(value / self.size) / 10
 
 
-class Part(NamedTuple):
+class CostPart(NamedTuple):
     """A part of the cost of a year, in money: with today's levels and with the new ones."""
 
     name: str
@@ -97,9 +97,9 @@ class Board:
     money: Money
     periods: float
     by_value: bool
-    all: Row
-    rows: Sequence[Row]
-    parts: Sequence[Part]
+    all: ClassRow
+    rows: Sequence[ClassRow]
+    parts: Sequence[CostPart]
     changed: int
     swings: Swings | None
 
@@ -114,7 +114,7 @@ class Board:
         return self.money.unit(self.all.values)
 
     @property
-    def shown(self) -> Sequence[Row]:
+    def shown(self) -> Sequence[ClassRow]:
         """Returns the rows of the table: all items, and their classes if there are several."""
         if len(self.rows) > 1:
             return [self.all, *self.rows]
@@ -166,13 +166,13 @@ class Board:
         """Returns the unit of what levels that are chosen anew would save beyond."""
         return self._unit_of([case.beyond for case in self._cases])
 
-    def _unit_of(self, amounts: Sequence[Estimate]) -> Unit:
+    def _unit_of(self, amounts: Sequence[EstimatedSum]) -> Unit:
         return self.money.unit(
             self.periods * amount.value for amount in amounts if amount.is_known()
         )
 
     @property
-    def picture(self) -> Picture | None:
+    def picture(self) -> ServicePicture | None:
         """Returns service and stock before and after; None if nothing has a price."""
         fills = [
             100 * fill for row in self.shown for fill in row.fills if fill is not None
@@ -182,7 +182,7 @@ class Board:
         size = self.value_unit.size
         values = [value / size for row in self.shown for value in row.values]
         least = max(0.0, min(fills) - LEAST_SERVICE)
-        return Picture(Scale.between(least, 100.0), Scale.of(values), size)
+        return ServicePicture(Scale.between(least, 100.0), Scale.of(values), size)
 
 
 def size_of(sums: tuple[str, Totals]) -> tuple[float, str]:
@@ -191,27 +191,29 @@ def size_of(sums: tuple[str, Totals]) -> tuple[float, str]:
     return -abs(totals["saving"]), name
 
 
-def rows_of(classes: Mapping[str, Totals], periods: float, by_value: bool) -> list[Row]:
+def rows_of(
+    classes: Mapping[str, Totals], periods: float, by_value: bool
+) -> list[ClassRow]:
     """Returns the classes that save or lose most, in order of their names, and all others as one row."""
     ranked = sorted(classes.items(), key=size_of)
     most = MOST_CLASSES
     if len(ranked) > most:
         most -= 1
     rows = [
-        Row.of(name or NO_CLASS, [sums], periods, by_value)
+        ClassRow.of(name or NO_CLASS, [sums], periods, by_value)
         for name, sums in ranked[:most]
     ]
     rows.sort(key=itemgetter(0))
     others = [sums for _, sums in ranked[most:]]
     if others:
-        rows.append(Row.of(f"{len(others)} others", others, periods, by_value))
+        rows.append(ClassRow.of(f"{len(others)} others", others, periods, by_value))
     return rows
 
 
-def parts_of(totals: Totals, periods: float) -> list[Part]:
+def parts_of(totals: Totals, periods: float) -> list[CostPart]:
     """Returns what the parts of the cost come to in a year of so many periods."""
     return [
-        Part(
+        CostPart(
             words,
             periods * totals[f"{name}_{TODAY}"],
             periods * totals[f"{name}_{CHOSEN}"],
@@ -228,7 +230,7 @@ def board_of(folder: PlannedFolder, survey: Survey, money: Money) -> Board:
         money=money,
         periods=periods,
         by_value=by_value,
-        all=Row.of(ALL, [totals], periods, by_value),
+        all=ClassRow.of(ALL, [totals], periods, by_value),
         rows=rows_of(survey.classes, periods, by_value),
         parts=parts_of(totals, periods),
         changed=totals.compared - totals.verdicts[SAME],

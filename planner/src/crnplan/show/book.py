@@ -19,7 +19,7 @@ from ..curve.pictures import AXIS, BLUE, LINE, MARKERS, SERVICE, TITLE, curve_en
 from ..errors import Refused
 from ..money import Currency
 from ..store.files import named_bytes
-from ..table import MONEY, Cell, Column, DataTable, is_missing
+from ..table import MONEY, TableCell, Column, DataTable, is_missing
 from .catalogue_tables import DECISIONS
 
 if TYPE_CHECKING:
@@ -93,7 +93,7 @@ def number_format(column: Column, table: DataTable) -> str:
 
 
 def write_cell(
-    sheet: Worksheet, row: int, place: int, cell: Cell, style: Format
+    sheet: Worksheet, row: int, place: int, cell: TableCell, style: Format
 ) -> int:
     """Writes a cell, empty for no figure, and returns how many letters it needs."""
     if cell is None or is_missing(cell):
@@ -117,7 +117,7 @@ def series_of(first: int, last: int, **style: object) -> dict[str, object]:
     }
 
 
-class Book:
+class SheetWriter:
     """A workbook, which is written row by row."""
 
     def __init__(self, file: io.BytesIO, title: str) -> None:
@@ -237,10 +237,10 @@ class Book:
 
 
 @contextlib.contextmanager
-def new_book(path: Path, title: str) -> Iterator[Book]:
+def new_book(path: Path, title: str) -> Iterator[SheetWriter]:
     """Gives a workbook, and writes it with what was added in the block."""
     data = io.BytesIO()
-    book = Book(data, title)
+    book = SheetWriter(data, title)
     yield book
     book.book.close()
     with named_bytes(path) as file:

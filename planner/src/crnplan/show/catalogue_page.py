@@ -21,10 +21,10 @@ from ..store.clusters import Scheduler
 from ..store.means import Means
 from ..plan.answer import CHOSEN, TODAY, Answer
 from ..plan.backtest.catalogue import past_of
-from ..plan.catalogue import PlannedFolder, planned_folder
+from ..plan.catalogue import Decided, PlannedFolder, planned_folder
 from ..plan.item import depth_of
 from ..plan.how import Settings
-from ..plan.survey import Decided, Survey, saving_of
+from ..plan.survey import Survey, saving_of
 from ..plan.swings import keep_swings
 from ..plan.totals import Totals
 from ..read.catalogue_reading import CATALOGUE, missing_of
@@ -40,7 +40,7 @@ from .catalogue_tables import (
     DECISIONS,
     DETAILS,
     REJECTS,
-    Decision,
+    ItemDecision,
     catalogue_summary,
     decisions_of,
     details_of,
@@ -74,7 +74,7 @@ MOST_DIGITS = 16  # of a number in the table of items
 PADDING, LETTER = 2, 1.25  # of a cell, and the width of a letter, in digits
 
 
-class Shown(NamedTuple):
+class ShownItem(NamedTuple):
     """An item in the table, planned or without demand, with its cells as decisions.csv has them."""
 
     item: Item
@@ -83,7 +83,7 @@ class Shown(NamedTuple):
 
     @property
     def remarks(self) -> tuple[Remark, ...]:
-        return Decision.of(self.item, self.answer).remarks
+        return ItemDecision.of(self.item, self.answer).remarks
 
 
 class ItemColumn(NamedTuple):
@@ -102,10 +102,10 @@ class ItemColumn(NamedTuple):
         """Returns what stands above the column."""
         return self.heading or self.name.replace("_", " ")
 
-    def is_filled(self, rows: Sequence[Shown]) -> bool:
+    def is_filled(self, rows: Sequence[ShownItem]) -> bool:
         return any(row.cells[self.name] for row in rows)
 
-    def among(self, rows: Sequence[Shown]) -> ItemColumn:
+    def among(self, rows: Sequence[ShownItem]) -> ItemColumn:
         """Returns the column with its width in digits, with its padding: it has room for its texts up to a limit, and for
         each word of its heading with the sign of its order."""
         longest = max((len(row.cells[self.name]) for row in rows), default=0)
@@ -123,7 +123,7 @@ ITEM_COLUMNS = [ItemColumn(its.name, **TRAITS[its.name]) for its in DECISION_COL
 class Bar(NamedTuple):
     """What an item saves, with the interval of its run."""
 
-    shown: Shown
+    shown: ShownItem
     saving: float
     low: float
     high: float
@@ -190,7 +190,7 @@ def board_facts(folder: PlannedFolder, survey: Survey) -> dict[str, object]:
     }
 
 
-def bars_facts(rows: Sequence[Shown]) -> dict[str, object]:
+def bars_facts(rows: Sequence[ShownItem]) -> dict[str, object]:
     """Returns what the picture of the greatest savings has."""
     bars = bars_of(rows)
     ends = [0.0]
@@ -200,7 +200,7 @@ def bars_facts(rows: Sequence[Shown]) -> dict[str, object]:
     return {"bars": bars, "bar_scale": Scale.of(ends), "together": together}
 
 
-def table_facts(folder: Path, rows: Sequence[Shown]) -> dict[str, object]:
+def table_facts(folder: Path, rows: Sequence[ShownItem]) -> dict[str, object]:
     """Returns what the table of items has, and the codes by which it filters."""
     codes = Counter[str]()
     for row in rows:
@@ -226,15 +226,15 @@ def rank_of(decided: Decided) -> tuple[bool, float, str]:
     return saving is None, -(saving or 0.0), item.name
 
 
-def shown_items(decided: Iterable[Decided], digits: int) -> list[Shown]:
+def shown_items(decided: Iterable[Decided], digits: int) -> list[ShownItem]:
     """Returns the items of the table by falling saving; those without one come last. Money has so many digits."""
     kept = sorted(decided, key=rank_of)
-    decisions = [Decision.of(item, answer) for item, answer in kept]
+    decisions = [ItemDecision.of(item, answer) for item, answer in kept]
     cells = DataTable.of(DECISION_COLUMNS, decisions, digits, "").cells(is_shown=True)
-    return [Shown(item, answer, own) for (item, answer), own in zip(kept, cells)]
+    return [ShownItem(item, answer, own) for (item, answer), own in zip(kept, cells)]
 
 
-def pages_of(folder: Path, rows: Iterable[Shown]) -> dict[str, str]:
+def pages_of(folder: Path, rows: Iterable[ShownItem]) -> dict[str, str]:
     """Returns the addresses of the pages of items that are there."""
     there = {path.name for path in (folder / ITEMS).glob("*.html")}
     if not there:
@@ -245,7 +245,7 @@ def pages_of(folder: Path, rows: Iterable[Shown]) -> dict[str, str]:
     }
 
 
-def bars_of(rows: Iterable[Shown]) -> list[Bar]:
+def bars_of(rows: Iterable[ShownItem]) -> list[Bar]:
     """Returns the items with the greatest savings, each with the interval of its run, by falling saving."""
     bars = []
     for row in rows:

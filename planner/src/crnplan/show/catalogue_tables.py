@@ -22,7 +22,7 @@ from .promise_tables import aims_of, costs_of, together_of
 
 if TYPE_CHECKING:
     from ..plan.catalogue import PlannedFolder
-    from ..plan.survey import Decided
+    from ..plan.catalogue import Decided
     from ..plan.totals import Totals
     from ..read.items import FileCounts
 
@@ -48,7 +48,7 @@ def words_of(remarks: Iterable[Remark]) -> str:
 
 
 @dataclass(frozen=True)
-class Decision:
+class ItemDecision:
     """An item with its answer, None if nothing is ordered of it, and all that must be said of it."""
 
     item: Item
@@ -56,7 +56,7 @@ class Decision:
     remarks: tuple[Remark, ...]
 
     @classmethod
-    def of(cls, item: Item, answer: Answer | Remark) -> Decision:
+    def of(cls, item: Item, answer: Answer | Remark) -> ItemDecision:
         """Takes why nothing is ordered in place of an answer."""
         if isinstance(answer, Answer):
             return cls(item, answer, (*item.remarks, *answer.remarks))
@@ -172,11 +172,11 @@ REJECT_COLUMNS = columns_of(
 )
 
 
-def decided(answers: Iterable[Decided]) -> Iterator[Decision]:
+def decided(answers: Iterable[Decided]) -> Iterator[ItemDecision]:
     """Yields the decision on each item that is planned, or of which no order is."""
     for item, answer in answers:
         if isinstance(answer, Answer) or item.past in UNORDERED:
-            yield Decision.of(item, answer)
+            yield ItemDecision.of(item, answer)
 
 
 def decisions_of(folder: PlannedFolder, answers: Iterable[Decided]) -> DataTable:

@@ -22,10 +22,10 @@ MEANINGS = {
 }
 CONTROL_COLUMNS = columns_of("show", "controls")
 OPTIONAL = "returned", "owed", "unread"
-States = Mapping[str, Control]  # what rows come to, by what became of them
+ControlsByState = Mapping[str, Control]  # what rows come to, by what became of them
 
 
-class Row(NamedTuple):
+class ControlRow(NamedTuple):
     """The control totals of a file of a kind, of rows of which one thing became."""
 
     kind: str
@@ -58,7 +58,7 @@ def controls_of(controls: Controls, decimals: int, currency: str) -> DataTable:
     return table.without_empty(OPTIONAL)
 
 
-def _rows_of(kind: str, files: Mapping[str, States]) -> Iterator[Row]:
+def _rows_of(kind: str, files: Mapping[str, ControlsByState]) -> Iterator[ControlRow]:
     """Yields the rows of a table that is in one file or in several."""
     together: defaultdict[str, Control] = defaultdict(Control)
     for states in files.values():
@@ -73,9 +73,9 @@ def _rows_of(kind: str, files: Mapping[str, States]) -> Iterator[Row]:
     for state, meaning in MEANINGS.items():
         control = together[state]
         if control.rows or state == USED:
-            yield Row(kind, name, meaning, control)
+            yield ControlRow(kind, name, meaning, control)
 
 
-def _read_row(kind: str, file: str, states: States) -> Row:
+def _read_row(kind: str, file: str, states: ControlsByState) -> ControlRow:
     """Returns the row of all that was read, whatever became of it."""
-    return Row(kind, file, "read", sum(states.values(), Control()))
+    return ControlRow(kind, file, "read", sum(states.values(), Control()))

@@ -12,7 +12,7 @@ from typing import Any, NamedTuple
 from ..decide.doubt import COLUMNS, WITHIN
 from ..demand import EMPIRICAL
 from ..demand.checks import Checks, checks_of
-from ..demand.fitted import Figures as LawFigures, FittedLaw, fit_words
+from ..demand.fitted import LawSummary, FittedLaw, fit_words
 from ..money import Currency
 from ..plan.answer import THEORY, Figures
 from ..plan.item import Depth
@@ -22,7 +22,7 @@ from ..policies import Policy
 from ..table import DataTable
 from ..theory.suggestions import COLUMNS as POLICY_COLUMNS
 from ..words import MONTHS, advised, exactness, sentence
-from .catalogue_tables import DECISION_COLUMNS, DETAIL_COLUMNS, Decision
+from .catalogue_tables import DECISION_COLUMNS, DETAIL_COLUMNS, ItemDecision
 from ..columns import columns_of
 from .item_plots import ALONE, history_plot, law_plot, season_plot, stock_plot
 from .law_words import law_said, law_words
@@ -228,7 +228,7 @@ def laws_of(question: Question, single: FittedLaw | None) -> DataTable:
     month."""
     rows = list[dict[str, object]]()
 
-    def add(table: str, name: str, figures: LawFigures) -> None:
+    def add(table: str, name: str, figures: LawSummary) -> None:
         shares = {}
         for share, value in figures.quantiles.items():
             shares[f"{1000 * share:.0f}"] = value
@@ -248,7 +248,7 @@ def laws_of(question: Question, single: FittedLaw | None) -> DataTable:
             seen, is_seen = question.seen, False
         if seen.values:  # A new item may have no periods yet.
             own = name if is_seen else "what was seen"
-            add(table, own, LawFigures.of(seen, is_sample=True))
+            add(table, own, LawSummary.of(seen, is_sample=True))
         if not is_seen:
             add(table, name, law.figures)
         if table == "demand" and single is not None:
@@ -284,7 +284,7 @@ def item_page(words: ItemWords) -> str:
 def item_facts(words: ItemWords) -> dict[str, object]:
     """Returns what the page of an item has."""
     depth, item = words.depth, words.item
-    decided_of = Decision.of(item, words.whole)
+    decided_of = ItemDecision.of(item, words.whole)
     columns = [*DECISION_COLUMNS, *DETAIL_COLUMNS]
     (decision,) = DataTable.of(columns, [decided_of], words.decimals).cells()
     doubted = dict(itertools.islice(words.doubted.items(), MOST_DOUBTED))

@@ -28,7 +28,7 @@ ALONE = "the law of this item alone"
 MOST_BARS = 520
 UNKNOWN = "; what is grey is not known"
 OF_ALONE = "of-alone"  # the class of lines of the law of the item alone
-Counts = Sequence[tuple[int, int]]  # values with their weights
+Histogram = Sequence[tuple[int, int]]  # values with their weights
 
 
 def history_said(item: Item, names: Sequence[str], every: str) -> str:
@@ -108,7 +108,7 @@ class DrawnLaw(NamedTuple):
 
     name: str
     css: str
-    counts: Counts
+    counts: Histogram
 
     @property
     def total(self) -> int:

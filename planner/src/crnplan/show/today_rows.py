@@ -6,8 +6,8 @@ from dataclasses import dataclass
 from typing import Any, NamedTuple
 
 from ..plan.risk import Risk
-from ..plan.standing import Money, Standing
-from ..plan.today import Addition, Group, Lying, Today
+from ..plan.standing import Worth, Standing
+from ..plan.today import Addition, OrderGroup, Lying, Today
 from ..read.item import Item
 from ..read.observed import Day
 from ..remarks import Remark
@@ -22,7 +22,7 @@ def supplier_file(place: int) -> str:
 
 
 @dataclass(frozen=True)
-class Row:
+class TodayRow:
     """An item on a day with what it stands at."""
 
     today: Today
@@ -64,7 +64,7 @@ class Listed(NamedTuple):
     """An item of a list of a day by the name of that: where it stands, or how it lies, and what that is worth."""
 
     name: str
-    value: Money
+    value: Worth
     standing: Standing | None = None
     lying: Lying | None = None
     weeks: float | None = None
@@ -97,7 +97,7 @@ class GroupRow:
 
     today: Today
     role: str
-    group: Group
+    group: OrderGroup
 
     @property
     def items(self) -> int:
@@ -122,8 +122,8 @@ class GroupRow:
         return ""
 
 
-Stands = Row | UnknownRow | Listed | Addition | Risk
-Reasoned = Row | UnknownRow | Listed | Risk
+Stands = TodayRow | UnknownRow | Listed | Addition | Risk
+Reasoned = TodayRow | UnknownRow | Listed | Risk
 
 
 def point_of(row: Stands) -> int | None:
@@ -138,7 +138,7 @@ def level_of(row: Stands) -> int | None:
     return None
 
 
-def placed_worth(row: Stands) -> Money:
+def placed_worth(row: Stands) -> Worth:
     """Returns what an order in whole packs is worth."""
     if row.standing:
         return row.standing.worth(row.standing.placed)

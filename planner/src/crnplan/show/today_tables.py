@@ -21,7 +21,7 @@ from ..money import Currency
 from ..plan.catalogue import PlannedFolder, copied_folder, planned_folder
 from ..plan.risk import Risk, risks_of
 from ..plan.standing import Standing
-from ..plan.today import Days, Group, Today, sum_of_money
+from ..plan.today import Days, OrderGroup, Today, sum_of_money
 from ..read.item import PHASE_OUT
 from ..read.items import Reading
 from ..read.observed import Day, stated_day
@@ -44,7 +44,7 @@ from .today_rows import (
     CLASS,
     SUPPLIER,
     GroupRow,
-    Row,
+    TodayRow,
     UnknownRow,
     listed,
     supplier_file,
@@ -76,7 +76,7 @@ TABLES = {name: columns_of("show", f"today_{name}", CELLS) for name in ON_A_DAY}
 TABLES |= {"controls": CONTROL_COLUMNS, "left_out": REJECT_COLUMNS}
 
 
-class Made(Mapping[str, DataTable]):
+class LazyTables(Mapping[str, DataTable]):
     """The tables by name, each of which is made when it is asked for."""
 
     def __init__(self, make: Callable[[str], DataTable]) -> None:
@@ -105,7 +105,7 @@ def named_orders(standings: Iterable[Standing], fact: str) -> str:
     return names_of(names, MOST_NAMED)
 
 
-def short_of(group: Group) -> tuple[Group, str, Fraction]:
+def short_of(group: OrderGroup) -> tuple[OrderGroup, str, Fraction]:
     """Returns a supplier whose order is below its least value, with what to add, and what is lacking then."""
     added = named_orders((it.standing for it in group.additions()), "placed")
     return group, added, group.lacking
@@ -142,10 +142,10 @@ class OrdersToday(Result):
             keys=self.keys,
         )
 
-    def _rows(self, standings: Iterable[Standing]) -> list[Row]:
-        return [Row(self.today, standing) for standing in standings]
+    def _rows(self, standings: Iterable[Standing]) -> list[TodayRow]:
+        return [TodayRow(self.today, standing) for standing in standings]
 
-    def _groups(self, role: str, groups: Iterable[Group]) -> list[GroupRow]:
+    def _groups(self, role: str, groups: Iterable[OrderGroup]) -> list[GroupRow]:
         return [GroupRow(self.today, role, group) for group in groups]
 
     @cached_property
@@ -205,7 +205,7 @@ class OrdersToday(Result):
         """Returns what to expedite first of the items that are late or at risk."""
         return self._table("at_risk", self.risks[:MOST_URGENT])
 
-    def _lines(self, groups: Iterable[Group]) -> DataTable:
+    def _lines(self, groups: Iterable[OrderGroup]) -> DataTable:
         """Returns the lines of the orders of suppliers, each with its most urgent item first."""
         return self._table(
             "lines", self._rows(standing for group in groups for standing in group.due)
@@ -253,7 +253,7 @@ class OrdersToday(Result):
     @cached_property
     def tables(self) -> Mapping[str, DataTable]:
         """Returns all tables by name, each of which is made when it is asked for."""
-        return Made(self._made)
+        return LazyTables(self._made)
 
     @property
     def files(self) -> dict[str, DataTable]:

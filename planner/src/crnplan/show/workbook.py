@@ -12,9 +12,9 @@ from ..plan.answer import CHOSEN, TODAY
 from ..plan.catalogue import PlannedFolder, planned_folder
 from ..plan.survey import Survey
 from ..plan.totals import Totals
-from ..table import MONEY, Cell, Column, number, whole
+from ..table import MONEY, TableCell, Column, number, whole
 from .board import ALL_PARTS, NO_CLASS, PARTS
-from .book import LINES, MEANING_WIDTH, TEXT, Book, new_book, number_format
+from .book import LINES, MEANING_WIDTH, TEXT, SheetWriter, new_book, number_format
 from .catalogue_tables import catalogue_summary, decisions_of, details_of, rejects_of
 from .change_tables import change_lines
 from ..columns import columns_of
@@ -75,9 +75,9 @@ def sums_of(folder: PlannedFolder, totals: Totals) -> Iterator[tuple[Sum, Column
     yield Sum("items planned", None, totals.planned), items
 
 
-def class_row(name: str, totals: Totals) -> Mapping[str, Cell]:
+def class_row(name: str, totals: Totals) -> Mapping[str, TableCell]:
     """Returns what the items of a class come to."""
-    row: dict[str, Cell] = {
+    row: dict[str, TableCell] = {
         "name": name,
         "items": totals.planned,
         "saving": totals["saving"],
@@ -89,7 +89,7 @@ def class_row(name: str, totals: Totals) -> Mapping[str, Cell]:
 
 
 def add_summary(
-    book: Book, folder: PlannedFolder, totals: Totals, orders: OrdersToday | None
+    book: SheetWriter, folder: PlannedFolder, totals: Totals, orders: OrdersToday | None
 ) -> None:
     """Writes what all items come to, and the summary of the plan."""
     sums = [*sums_of(folder, totals)]
@@ -105,7 +105,7 @@ def add_summary(
     book.add(SUMMARY, table, styles + [[TEXT] * 3] * len(texts))
 
 
-def add_orders(book: Book, orders: OrdersToday) -> None:
+def add_orders(book: SheetWriter, orders: OrdersToday) -> None:
     """Writes the orders of a day; by supplier, with what is at risk, if it is known what is on order."""
     if not orders.today.has_orders:
         book.add(WITHOUT.capitalize(), orders.table)
@@ -114,7 +114,9 @@ def add_orders(book: Book, orders: OrdersToday) -> None:
         book.add(name, orders.tables[table])
 
 
-def fill_book(book: Book, folder: PlannedFolder, orders: OrdersToday | None) -> None:
+def fill_book(
+    book: SheetWriter, folder: PlannedFolder, orders: OrdersToday | None
+) -> None:
     """Writes all sheets of a planned folder. Raises Refused if one has too many rows."""
     survey, curve = Survey(folder), kept_curve(folder.store)
     add_summary(book, folder, survey.totals, orders)

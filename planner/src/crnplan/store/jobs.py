@@ -16,7 +16,7 @@ from typing import Any, Generic, TypeVar
 from ..errors import Failed, Refused, argument
 from .files import KEPT
 from .interrupts import interrupted_later
-from .processes import Shared, Worker, end_with_programs
+from .processes import SharedValue, Worker, end_with_programs
 
 # Items of a batch. So much of each worker is lost at most if all ends by force. A cluster takes some milliseconds for a
 # batch, so if there are many items, they are sent in larger ones.
@@ -204,7 +204,7 @@ class Processes(Workers):
         self.threads = futures.ThreadPoolExecutor(most)
 
     def share(self, words: Sequence[Any]) -> Sequence[Any]:
-        return [*map(Shared, words)]
+        return [*map(SharedValue, words)]
 
     def submit(
         self,

@@ -73,7 +73,7 @@ def loaded(data: bytes) -> Any:
     return pickle.loads(data)
 
 
-class Shared:
+class SharedValue:
     """A value that is sent to worker processes many times. Each of them makes it once."""
 
     def __init__(self, value: object) -> None:

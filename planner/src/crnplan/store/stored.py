@@ -19,9 +19,11 @@ from ..errors import CrnplanError, Failed
 from .files import is_of_disk
 from ..remarks import Remark
 
-Cell = int | float | str | bytes | None
+StoredCell = int | float | str | bytes | None
 Row = TypeVar("Row")
-Question = tuple[str, str]  # a name, and the digest of all that its answer depends on
+NamedDigest = tuple[
+    str, str
+]  # a name, and the digest of all that its answer depends on
 LARGEST = 2**63  # SQLite's whole numbers are below
 WAIT_SECONDS = 60.0  # for another process that writes the same file
 
@@ -92,7 +94,7 @@ def _array_of(data: bytes) -> Any:
 
 LIST = json.JSONDecoder()
 # How values of a type are kept in a cell, and read again. Fractions, tuples and remarks are texts, arrays bytes.
-KINDS: dict[Any, tuple[Callable[[Any], Cell], Callable[[Any], Any]]] = {
+KINDS: dict[Any, tuple[Callable[[Any], StoredCell], Callable[[Any], Any]]] = {
     int: (_whole_cell, int),
     float: (float, float),
     str: (str, str),
@@ -132,7 +134,7 @@ def check_whole(base: sqlite3.Connection, path: Path) -> None:
         raise Damaged(path, states[0])
 
 
-class Columns(Generic[Row]):
+class StoredColumns(Generic[Row]):
     """The columns in which values of a type are kept: one, or for a frozen dataclass those of its fields.
 
     A field that is a dataclass itself has a column for each of its own fields, with its name before theirs. None stands
@@ -143,7 +145,7 @@ class Columns(Generic[Row]):
         self.kind = kind
         self.names = [name]
         # By field: the place of its first cell, the one after its last, and its columns.
-        self.parts = dict[str, tuple[int, int, Columns[Any]]]()
+        self.parts = dict[str, tuple[int, int, StoredColumns[Any]]]()
         if dataclasses.is_dataclass(kind) and kind is not Remark:
             self._add_fields(name)
         else:
@@ -156,7 +158,7 @@ class Columns(Generic[Row]):
         for field, hint in typing.get_type_hints(self.kind).items():
             types = typing.get_args(hint)
             kind = types[0] if type(None) in types else hint
-            part = Columns[Any](kind, f"{name}_{field}" if name else field)
+            part = StoredColumns[Any](kind, f"{name}_{field}" if name else field)
             start = len(self.names)
             self.names += part.names
             self.parts[field] = start, len(self.names), part
@@ -165,11 +167,11 @@ class Columns(Generic[Row]):
         """Returns what has SQL add the cells of a value to a table with these columns."""
         return f"INSERT INTO {table} VALUES ({', '.join('?' * len(self.names))})"
 
-    def cells(self, value: Row | None) -> list[Cell]:
+    def cells(self, value: Row | None) -> list[StoredCell]:
         """Returns the cells of a value with fields; all are None if there is none."""
         if value is None:
             return [None] * len(self.names)
-        cells = list[Cell]()
+        cells = list[StoredCell]()
         for field, (_, _, part) in self.parts.items():
             content = getattr(value, field)
             # A catalogue has a hundred cells an item, most of them without parts: these are made here, which is fast.
@@ -186,19 +188,19 @@ class Columns(Generic[Row]):
         """Returns the names of the columns of an answer: a fault, or a value."""
         return ["fault", *self.names]
 
-    def answer_cells(self, answer: Row | Remark) -> list[Cell]:
+    def answer_cells(self, answer: Row | Remark) -> list[StoredCell]:
         """Returns the cells of an answer."""
         if isinstance(answer, Remark):
             return [_remark_text(answer), *self.cells(None)]
         return [None, *self.cells(answer)]
 
-    def answer(self, cells: Sequence[Cell]) -> Row | Remark:
+    def answer(self, cells: Sequence[StoredCell]) -> Row | Remark:
         """Returns the answer of cells."""
         if cells[0]:
             return _remark_of(str(cells[0]))
         return self.value(cells[1:])
 
-    def value(self, cells: Sequence[Cell]) -> Row:
+    def value(self, cells: Sequence[StoredCell]) -> Row:
         """Returns the value of cells, None if the first one is. Raises ValueError, TypeError or LookupError if they
         have none."""
         if cells[0] is None:
@@ -215,7 +217,7 @@ class Columns(Generic[Row]):
 
 
 # Returns the columns of a type, which are made once: that takes as long as to read ten answers.
-columns_of: Callable[[Any], Any] = functools.cache(Columns)
+columns_of: Callable[[Any], Any] = functools.cache(StoredColumns)
 
 
 class Sealed(typing.NamedTuple):
@@ -224,12 +226,12 @@ class Sealed(typing.NamedTuple):
     name: str
     digest: str
     seal: str
-    cells: Sequence[Cell]
+    cells: Sequence[StoredCell]
 
 
-def seal_of(name: str, digest: str, cells: Iterable[Cell]) -> str:
+def seal_of(name: str, digest: str, cells: Iterable[StoredCell]) -> str:
     """Returns a digest of an answer as it is kept."""
-    plain, data = list[Cell](), list[bytes]()
+    plain, data = list[StoredCell](), list[bytes]()
     for cell in cells:
         if isinstance(cell, bytes):
             data.append(cell)
@@ -281,7 +283,7 @@ class Store(Opened, Generic[Row]):
         but for a file that is known to be whole, since it was opened before. A copy has the name of its original in
         messages."""
         self.path, self.kind, self.named = path, kind, named or path
-        self.columns: Columns[Row] = columns_of(kind)
+        self.columns: StoredColumns[Row] = columns_of(kind)
         if is_read:
             self.base = sqlite3.connect(
                 f"{path.absolute().as_uri()}?mode=ro&immutable=1", uri=True
@@ -336,7 +338,7 @@ class Store(Opened, Generic[Row]):
             "INSERT OR REPLACE INTO facts VALUES (?, ?)", facts.items()
         )
 
-    def lacking(self, questions: Sequence[Question]) -> list[Question]:
+    def lacking(self, questions: Sequence[NamedDigest]) -> list[NamedDigest]:
         """Returns those of some questions, which are in order of names, that have no answer."""
         if not questions:
             return []
@@ -365,7 +367,9 @@ class Store(Opened, Generic[Row]):
             self.base.execute("DELETE FROM answers WHERE item = ?", [name])
             self._add([sealed(self.kind, name, digest, answer)])
 
-    def finish(self, questions: Iterable[Question], facts: Mapping[str, str]) -> None:
+    def finish(
+        self, questions: Iterable[NamedDigest], facts: Mapping[str, str]
+    ) -> None:
         """Makes questions those that were asked last, with facts, and removes the answers to all others."""
         with self.base:
             self.base.execute("DELETE FROM asked")
@@ -389,7 +393,7 @@ class Store(Opened, Generic[Row]):
             ):
                 yield row
 
-    def digests(self) -> Iterator[Question]:
+    def digests(self) -> Iterator[NamedDigest]:
         """Yields the questions that were asked last. Raises Damaged."""
         for name, digest in self._rows("item, digest"):
             yield name, digest
@@ -406,7 +410,7 @@ class Store(Opened, Generic[Row]):
             None,
         )
 
-    def cells(self, column: str) -> Iterator[tuple[str, Remark | None, Cell]]:
+    def cells(self, column: str) -> Iterator[tuple[str, Remark | None, StoredCell]]:
         """Yields each name in order with the fault for which it has no value, and a column of that as it is kept."""
         for name, fault, cell in self._rows(f'item, fault, "{column}"'):
             yield name, _remark_of(fault) if fault else None, cell

@@ -17,7 +17,7 @@ from typing import Any, Generic, NamedTuple, TypeVar
 
 from .jobs import BATCH, Workers, batched
 from ..remarks import Remark
-from .stored import Question, Sealed, Store, sealed
+from .stored import NamedDigest, Sealed, Store, sealed
 
 AHEAD = 2  # batches of each worker that are under way
 MANY_BATCHES = 8  # of each worker, before batches get larger
@@ -45,7 +45,7 @@ class Answered(NamedTuple):
 def answer_batch(
     kind: type[Row],
     function: Callable[..., Row | Remark],
-    batch: Sequence[tuple[Question, Any]],
+    batch: Sequence[tuple[NamedDigest, Any]],
     *words: Any,
 ) -> list[Sealed]:
     """Returns the answers to some questions as they are kept."""
@@ -66,7 +66,7 @@ class Work(Generic[Row]):
     """
 
     store: Store[Row]
-    questions: Callable[[], Iterable[Question]]
+    questions: Callable[[], Iterable[NamedDigest]]
     ask: Callable[[str], Any]
     function: Callable[..., Row | Remark]
     words: Sequence[Any] = ()
@@ -134,7 +134,7 @@ class Work(Generic[Row]):
             questions = [question for question, _ in batch]
             yield questions, [self.store.kind, self.function, batch, *words]
 
-    def _left(self, turns: _Turns, done: Progress) -> Iterator[tuple[Question, Any]]:
+    def _left(self, turns: _Turns, done: Progress) -> Iterator[tuple[NamedDigest, Any]]:
         """Yields the questions that workers have to answer, each with what is asked. What is known is kept."""
         for block in batched(self.questions(), LOOKED_AT):
             left = {*self.store.lacking(block)}
@@ -155,19 +155,19 @@ class _Turns:
     """Questions in order, of which some wait for their answers."""
 
     def __init__(self) -> None:
-        self._order, self._waiting = deque[Answered](), set[Question]()
+        self._order, self._waiting = deque[Answered](), set[NamedDigest]()
 
-    def add(self, question: Question, asked: Any = None) -> None:
+    def add(self, question: NamedDigest, asked: Any = None) -> None:
         if len(self._order) >= MOST_WAITING:
             asked = None
         self._order.append(Answered(*question, asked))
 
-    def begin(self, question: Question, asked: Any) -> None:
+    def begin(self, question: NamedDigest, asked: Any) -> None:
         """Adds a question that is now under way."""
         self._waiting.add(question)
         self.add(question, asked)
 
-    def end(self, questions: Iterable[Question]) -> None:
+    def end(self, questions: Iterable[NamedDigest]) -> None:
         self._waiting.difference_update(questions)
 
     def ready(self) -> Iterator[Answered]:

@@ -1,7 +1,7 @@
 """Computes what (s,S) policies of a scenario cost in the long run.
 
 Let m be the longest lead time. All orders of the reviews up to period t have arrived in period t + m. So the stock at
-the end of that period follows from the position after the review of period t (`Walk`) and from what happens in the m
+the end of that period follows from the position after the review of period t (`PositionWalk`) and from what happens in the m
 periods after it: see `shortfalls.py`. With one lead time L, it is that position less the net demand of L + 1 periods
 (Zipkin, Foundations of Inventory Management, 2000, chapter 9).
 
@@ -24,7 +24,7 @@ from .shortfalls import Shortfalls, lateness
 from .walk import (
     LatticeLaw,
     Surplus,
-    Walk,
+    PositionWalk,
     figures_at,
     mean_of,
     power_of,
@@ -35,7 +35,7 @@ MOST_CELLS = 50_000  # of tables with a row for each of many gaps
 UNMET, STOCK_LEFT = 1, 3  # rows of `LongRun.figures_from`
 
 
-class Figures(NamedTuple):
+class PolicyFigures(NamedTuple):
     """What a policy amounts to in a period of the long run: stock in items, `fill` and `short` as shares."""
 
     cost: float
@@ -45,7 +45,7 @@ class Figures(NamedTuple):
     orders: float
 
 
-class Figured(Walk):
+class Figured(PositionWalk):
     """The figures of a scenario's policies on a lattice."""
 
     def __init__(self, scenario: ScenarioData, step: int, exact: bool) -> None:
@@ -57,7 +57,7 @@ class Figured(Walk):
         self.holding = costs.holding
         self.backlog = costs.backlog
         self.shorts = dict[int, Floats]()
-        self.figured = dict[tuple[int, int], Figures]()
+        self.figured = dict[tuple[int, int], PolicyFigures]()
         self.asked = self.demand.mean * step  # the mean demand of a period, in items
         # How far the mean stock less the mean backlog is below the mean low, in items.
         taken = self.one.mean * float(scenario.lead.mean + (self.review + 1) / 2)
@@ -158,13 +158,15 @@ class Figured(Walk):
         (lows,) = self.lows_below([gap])
         return sum_of(LatticeLaw.scaled(-self.above, lows), self.after)
 
-    def figures(self, point: int, level: int) -> Figures:
+    def figures(self, point: int, level: int) -> PolicyFigures:
         """Returns the figures of a policy; if the lattice is not exact, between those of the gaps beside its own."""
         (gap, share), *others = self.gaps_of(point, level)
         figures = self.figures_of_gap(gap, level)
         for other, rest in others:
             pairs = zip(figures, self.figures_of_gap(other, level))
-            figures = Figures(*(share * here + rest * there for here, there in pairs))
+            figures = PolicyFigures(
+                *(share * here + rest * there for here, there in pairs)
+            )
         return figures
 
     def pairs_of(self, policies: Iterable[Policy]) -> set[tuple[int, int]]:
@@ -175,7 +177,7 @@ class Figured(Walk):
             for gap, _ in self.gaps_of(policy.s, policy.S)
         }
 
-    def figures_of_gap(self, gap: int, level: int) -> Figures:
+    def figures_of_gap(self, gap: int, level: int) -> PolicyFigures:
         """Returns the figures of a gap and an order-up-to level."""
         self.figure({(gap, level)})
         return self.figured[gap, level]
@@ -192,7 +194,7 @@ class Figured(Walk):
             cost = self.setup * orders + stock_cost
             # Of what is never met at once, rounding leaves a little less than nothing.
             fill, short = max(0.0, 1 - unmet / self.asked), max(0.0, 1 - held)
-            self.figured[gap, level] = Figures(cost, fill, short, stock, orders)
+            self.figured[gap, level] = PolicyFigures(cost, fill, short, stock, orders)
 
     def parts(self, gaps: Sequence[int] | Whole) -> Iterator[Whole]:
         """Yields rising gaps in parts, whose tables are small. With one lead time all have one table."""

@@ -41,7 +41,7 @@ import numpy as np
 from ..chances import Floats, Whole
 from ..scenario import Costs, ScenarioData
 from .feasible import ALL, Feasible, Places
-from .figures import Figured, Figures
+from .figures import Figured, PolicyFigures
 from .grid import CLOSE, gap_grid, search
 from .levels import NEAR, Bounds, walked
 from .shortfalls import work_of
@@ -70,7 +70,7 @@ class Candidate(NamedTuple):
 NO_POLICY = Candidate(math.inf, 0, 0)
 
 # For each of some gaps a level in items, or -1, and what it costs, or infinity.
-Levels = tuple[Whole, Floats]
+SearchedLevels = tuple[Whole, Floats]
 # Returns the reorder points and levels of some gaps.
 Fixed = Callable[[Whole], tuple[Whole, Whole]]
 
@@ -239,7 +239,7 @@ class LongRun(Figured):
         """Returns the least chance that a period ends with nothing owed, if this share is to be met."""
         return share * (1 - NEAR) if self.counts_periods else 0.0
 
-    def met(self, figures: Figures) -> float:
+    def met(self, figures: PolicyFigures) -> float:
         """Returns what a policy meets of that of which a share is wanted."""
         return 1 - figures.short if self.counts_periods else figures.fill
 
@@ -256,7 +256,7 @@ class LongRun(Figured):
         cut: int = MOST_LEVEL,
         base: float = -math.inf,
         known: float | None = None,
-    ) -> Levels:
+    ) -> SearchedLevels:
         """Returns the best or fixed levels of some rising gaps that meet a share, with what they cost: see `walked`.
         Nested gaps have the lows of one lead time. Any level is feasible if no bounds are given, and no gap is left out
         if no cost is known."""
@@ -321,7 +321,9 @@ class LongRun(Figured):
         lowest = int(levels[cheap]) - self.step + 1
         return max(self.feasible.least_point, lowest)
 
-    def levels_of(self, gaps: Whole, sought: Sought, known: float = math.inf) -> Levels:
+    def levels_of(
+        self, gaps: Whole, sought: Sought, known: float = math.inf
+    ) -> SearchedLevels:
         """Returns for each of some rising gaps the level that is sought, with its cost. Gaps that cost more than a known
         policy are left out."""
         levels = np.full(len(gaps), -1)

@@ -27,7 +27,7 @@ from .feasible import ALL
 from .lattice import NoTheory, Shape, finest, shape_of, theory_on
 from .long_run import NO_POLICY, Candidate, LongRun
 from .shortfalls import chances_of, demands_of, falling, transforms_of
-from .walk import Walk, room_for
+from .walk import PositionWalk, room_for
 
 DEVIATIONS = 8  # of the net demand of the lead time, which have room
 # What a law may take: cells, times what each takes (a constant, for each period of the lead time, for each pair of
@@ -91,7 +91,7 @@ def run_of(
         """Returns how many times too large the laws of the stock are, but for what is all but impossible."""
         exact = step == shape.base
         is_made = made is not None and (made.step, made.exact) == (step, exact)
-        walk = made if made and is_made else Walk(scenario, step, exact)
+        walk = made if made and is_made else PositionWalk(scenario, step, exact)
         net = walk.net
         above = -walk.above_low.low + shape.lead * max(0, -net.low) + walk.back.high
         likely = (

@@ -127,7 +127,7 @@ def counts_of(chance: float, reviews: int, most: int) -> Floats:
     return rows[:used]
 
 
-class Sums(NamedTuple):
+class NetDemandLaws(NamedTuple):
     """The laws of the net demand of 0, 1, .. less than so many reviews, up to a width, which is never below 0: `counts`
     has the chances of how many of them ask for something, a row each, and `laws` has a row with the sum of so many.
     Reviews without a row are not within the width."""
@@ -137,7 +137,7 @@ class Sums(NamedTuple):
     laws: Floats
 
     @classmethod
-    def of(cls, net: LatticeLaw, width: int, reviews: int) -> Sums:
+    def of(cls, net: LatticeLaw, width: int, reviews: int) -> NetDemandLaws:
         """Returns the laws of less than so many reviews, up to a width in cells. Net demands are not always 0."""
         law = net.between(0, max(net.high, width))[: width + 1]
         never = law[0]
@@ -196,7 +196,9 @@ def renewals(
     return placing.sum(), depths[0], (depths[1] * (low + np.arange(len(begun)))).sum()
 
 
-def falling(sums: Sums, start: Start, gap: int, periods: int, counted: int) -> Reviews:
+def falling(
+    sums: NetDemandLaws, start: Start, gap: int, periods: int, counted: int
+) -> Reviews:
     """Returns the reviews of so many periods if nothing comes back, of which the first `counted` matter for the stock.
     `sums` go up to the most that can be asked for between the start and an order."""
     law = start.law

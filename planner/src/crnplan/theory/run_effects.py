@@ -31,12 +31,20 @@ from ..scenario import ScenarioData
 from .feasible import ALL
 from .lattice import MOST_GAPS, NoTheory, lattice_of, shape_of, theory_on
 from .long_run import LongRun
-from .reviews import MOST_SUMS, Reviews, Start, Sums, falling, most_sums, moving
+from .reviews import (
+    MOST_SUMS,
+    Reviews,
+    Start,
+    NetDemandLaws,
+    falling,
+    most_sums,
+    moving,
+)
 from .shortfalls import renewed, transforms_of, waiting
 from .walk import NOTHING, LatticeLaw, Surplus, room_for, sum_of
 
 if TYPE_CHECKING:
-    from ..crnsim.report import Row
+    from ..crnsim.report import ReportRow
 
 MOST_WORK = 40_000_000  # for late orders of all policies, by `work_of`
 MOST_BIAS_GAPS = (
@@ -80,7 +88,7 @@ def start_of(theory: LongRun, initial: int, policy: Policy, gap: int) -> Start:
     return Start(LatticeLaw(low, chances), False)
 
 
-class Runs:
+class PolicyRuns:
     """Runs of a scenario's policies from their common start. The orders of `counted` reviews all arrive within a run."""
 
     def __init__(self, theory: LongRun, scenario: ScenarioData) -> None:
@@ -114,12 +122,12 @@ class Runs:
         widest = max(
             gap - min(start.law.low, 0) for (_, gap), start in self.starts.items()
         )
-        self.sums: Sums | None = None
+        self.sums: NetDemandLaws | None = None
         if (
             theory.net.low >= 0
             and widest * min(self.periods, most_sums(theory.net, widest)) <= MOST_SUMS
         ):
-            self.sums = Sums.of(theory.net, widest, self.periods)
+            self.sums = NetDemandLaws.of(theory.net, widest, self.periods)
 
     def reviews(self, start: Start, gap: int) -> Reviews:
         """Returns the reviews from a start."""
@@ -227,7 +235,7 @@ def start_bias(scenario: ScenarioData, known: LongRun | None = None) -> StartBia
         costs.backlog,
     ):
         theory = theory.priced(costs, theory.most, ALL)
-    runs = Runs(theory, scenario)
+    runs = PolicyRuns(theory, scenario)
     biases = (
         sum(
             share * runs.bias(policy, gap)
@@ -249,7 +257,7 @@ def start_bias(scenario: ScenarioData, known: LongRun | None = None) -> StartBia
 
 
 def end_effects(
-    scenario: ScenarioData, policies: Sequence[Policy | Row]
+    scenario: ScenarioData, policies: Sequence[Policy | ReportRow]
 ) -> list[float] | None:
     """Returns what `unit` adds per replication to each policy's cost by its final stock, less that of the first one;
     None if there is no long-run mean, or if its tables are too large."""

@@ -41,7 +41,7 @@ from scipy import fft
 
 from ..chances import Floats, Whole, add_times
 from ..compiled import compiled
-from .walk import LatticeLaw, Walk, room_for
+from .walk import LatticeLaw, PositionWalk, room_for
 
 FAR = 6  # cells between two gaps, from which on a transform takes less time than adding them one by one
 LEAST_CHANCE = 1e-16  # Transforms round chances by about as much.
@@ -317,7 +317,7 @@ class Shortfalls:
 
     def __init__(
         self,
-        walk: Walk,
+        walk: PositionWalk,
         late: Floats,
         above: int,
         beside: int,

@@ -27,7 +27,7 @@ from ..table import DataTable, Json, Result
 from ..toml.documents import read_document
 from ..toml.scenarios import head_of, plain_text
 from ..words import sentence
-from .figures import Figures
+from .figures import PolicyFigures
 from .lattice import theories_of
 from .long_run import Candidate, LongRun
 from .many_laws import Promises
@@ -100,7 +100,7 @@ class Depths:
         return self.last(level - point), level
 
 
-class Chosen:
+class SuggestedPolicies:
     """Policies in order with the reasons for each, by behaviour. `left_out` are names without a place."""
 
     def __init__(self, scenario: ScenarioData) -> None:
@@ -129,7 +129,9 @@ class Chosen:
             self.policies[behaviour] = own, [reason]
 
 
-def add_fills(chosen: Chosen, theory: LongRun, promises: Promises | None) -> None:
+def add_fills(
+    chosen: SuggestedPolicies, theory: LongRun, promises: Promises | None
+) -> None:
     """Adds the cheapest policies with fill rates, and beside each the cheapest that promises it."""
     for name, share in FILLS.items():
         plain = theory.best(share)
@@ -147,9 +149,9 @@ def chosen_policies(
     theory: LongRun,
     best: Candidate,
     promises: Promises | None = None,
-) -> Chosen:
+) -> SuggestedPolicies:
     """Returns the suggested policies of a scenario, of which the best is known. All but today's are feasible."""
-    chosen = Chosen(scenario)
+    chosen = SuggestedPolicies(scenario)
     chosen.add("best", best, BEST)
     for today in scenario.policies[:1]:
         chosen.add("same_s", theory.best_with_point(today.s), Remark("today's s"))
@@ -177,7 +179,7 @@ class Suggestion:
 
     policy: Policy
     remarks: tuple[Remark, ...]
-    figures: Figures
+    figures: PolicyFigures
 
     @property
     def cost(self) -> float:
@@ -376,7 +378,7 @@ def below_0(theory: LongRun, best: Candidate) -> Iterator[Remark]:
         yield Remark("s below 0", facts)
 
 
-def remarks_of(theory: LongRun, chosen: Chosen) -> Iterator[Remark]:
+def remarks_of(theory: LongRun, chosen: SuggestedPolicies) -> Iterator[Remark]:
     """Yields how policies were found, and which have no place."""
     if theory.is_searched:
         yield Remark("search of a grid", {"most": MOST_EXCESS})

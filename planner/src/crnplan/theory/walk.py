@@ -310,7 +310,7 @@ def renewal_sequence(lows: Floats, falls: Floats, count: int) -> Floats:
     return longer
 
 
-class Walk:
+class PositionWalk:
     """The inventory position on a lattice of `step` items. A gap is S - s in cells: an order is placed if the position
     is more than the gap below S."""
 

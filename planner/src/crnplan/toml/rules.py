@@ -43,7 +43,7 @@ def unknown(path: Path, value: Any) -> list[TreeFault]:
 
 
 @dataclass(frozen=True)
-class Table:
+class TableCheck:
     """The check of a table: that of each of its keys, all of which may be needed, of all together, and of `other` keys."""
 
     keys: Mapping[str, Check]
@@ -146,7 +146,7 @@ def place_text(path: Path, tables: Collection[str]) -> str:
     return " ".join(filter(None, [heading, ", ".join(rest)]))
 
 
-def read_tables(path: str | FilePath, rules: Table) -> Tree:
+def read_tables(path: str | FilePath, rules: TableCheck) -> Tree:
     """Returns the tree of a file that has no fault by the rules of its tables.
 
     Raises Refused if it can't be read, and RefusedFaults with all that is wrong with it, by line.

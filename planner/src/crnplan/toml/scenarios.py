@@ -18,7 +18,7 @@ from .documents import Path, Tree, TreeFault, older_text, read_judged, shown
 from .rules import (
     RANGE,
     Check,
-    Table,
+    TableCheck,
     first_of_each,
     listed,
     no_faults,
@@ -156,7 +156,7 @@ CHECKS: dict[str, Check] = {
 }
 
 
-def _rules(version: int) -> Table:
+def _rules(version: int) -> TableCheck:
     """Returns the rules of a scenario, but for its version, which is judged by itself."""
     tables: dict[str, dict[str, Check]] = {}
     for key in formats.KEYS[1:]:
@@ -169,10 +169,10 @@ def _rules(version: int) -> Table:
     document = tables.pop("")
     for name, keys in tables.items():
         joint = _draws_faults if name in formats.DRAWS else no_faults
-        document[name] = Table(keys, joint)
-    policy = Table(tables["policy"], _levels_faults)
+        document[name] = TableCheck(keys, joint)
+    policy = TableCheck(tables["policy"], _levels_faults)
     document["policy"] = listed(policy, "a list of tables", _policies_faults)
-    return Table(document)
+    return TableCheck(document)
 
 
 RULES = {version: _rules(version) for version in formats.VERSIONS}

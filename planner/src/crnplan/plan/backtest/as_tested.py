@@ -11,10 +11,12 @@ from ..prices import REST
 from .methods import KEPT, SEASONAL, TOGETHER
 from .sums import Sums, whole_of
 
-Words = Mapping[str, Mapping[str, Any]]
+MethodKeys = Mapping[str, Mapping[str, Any]]
 
 
-def words_as(sums: Sequence[Sums], words: Words) -> tuple[dict[str, Any], list[Remark]]:
+def words_as(
+    sums: Sequence[Sums], words: MethodKeys
+) -> tuple[dict[str, Any], list[Remark]]:
     """Returns the words of a plan as tests found best, of those that each method has, and remarks on that.
 
     One method is taken for all items: the one that gained most, beside which their seasons are planned if these gained,
@@ -41,7 +43,7 @@ def words_as(sums: Sequence[Sums], words: Words) -> tuple[dict[str, Any], list[R
     return taken | season, remarks + said
 
 
-def method_of(ranked: Sequence[str], words: Words) -> str:
+def method_of(ranked: Sequence[str], words: MethodKeys) -> str:
     """Returns the method that is taken for all items, of those that gained, the best first. Seasons are planned beside
     another one, but not by the last periods alone, which show none: of both, the better is taken.
     """
@@ -70,7 +72,7 @@ def shares_of(
 
 
 def season_of(
-    whole: Sums | None, words: Words, gained: Sequence[str], method: str
+    whole: Sums | None, words: MethodKeys, gained: Sequence[str], method: str
 ) -> tuple[dict[str, Any], list[Remark]]:
     """Returns the word on seasons, if a test says one, with what is said of it."""
     if whole is None or SEASONAL not in words:

@@ -20,17 +20,17 @@ FLOOR = 0.05  # of the share that is read, added to all shares, so that nothing 
 
 
 @dataclass(frozen=True)
-class Reading:
+class CurveReading:
     """A stock that was read on a curve, and by how much each part of the curve's sums moves it. These add up to it."""
 
     stock: float
     parts: Floats
 
-    def with_more(self, parts: Floats) -> Reading:
+    def with_more(self, parts: Floats) -> CurveReading:
         """Returns the stock with what each part costs beside."""
-        return Reading(self.stock + float(parts.sum()), self.parts + parts)
+        return CurveReading(self.stock + float(parts.sum()), self.parts + parts)
 
-    def beside(self, other: Reading) -> tuple[float, Floats]:
+    def beside(self, other: CurveReading) -> tuple[float, Floats]:
         """Returns by which share this stock is above another one of the same parts, and by how much each part moves
         that."""
         ratio = self.stock / other.stock
@@ -61,20 +61,20 @@ class Curve:
         most = min(max(self.shares), max(other.shares))
         return min(max(share, least), most) if least <= most else None
 
-    def at(self, share: float) -> Reading | None:
+    def at(self, share: float) -> CurveReading | None:
         """Returns the stock that leaves a share of demand unmet; None if that is not between those of two aims."""
         for place, (high, low) in enumerate(itertools.pairwise(self.shares)):
             if share > 0 and high >= share >= low:
                 return self._between(place, share)
         return None
 
-    def _between(self, place: int, share: float) -> Reading:
+    def _between(self, place: int, share: float) -> CurveReading:
         """Returns the stock that leaves a share unmet between an aim and the next one."""
         near, total = slice(place, place + 2), float(self.asked.sum())
         above = np.array(self.shares[near]) + FLOOR * share
         high, low = np.log(above)
         if high == low:
-            return Reading(float(self.stocks[place].sum()), self.stocks[place])
+            return CurveReading(float(self.stocks[place].sum()), self.stocks[place])
         way = (high - np.log(share + FLOOR * share)) / (high - low)
         weights = np.array([1 - way, way])
         stocks = np.array(self.stocks[near])
@@ -84,4 +84,4 @@ class Curve:
         )
         step = float(stocks[1].sum() - stocks[0].sum()) / (high - low)
         parts: Floats = weights @ stocks + step * (weights @ moved)
-        return Reading(float(weights @ stocks.sum(axis=1)), parts)
+        return CurveReading(float(weights @ stocks.sum(axis=1)), parts)

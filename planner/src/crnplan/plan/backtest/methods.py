@@ -27,7 +27,7 @@ from ..how import Settings
 from ..offers import ByPrice
 from ..question import Levels, Question, question_of
 from ..seasons import InSeason, Stretch
-from .outcomes import Happened, Outcome, Run
+from .outcomes import Happened, Outcome, MethodRun
 from .smoothing import smoothed_levels, wanted_share
 
 KEPT, REFITTED, DAMPED = "kept", "refitted", "damped"
@@ -94,7 +94,7 @@ def aims_about(share: float) -> list[float]:
     return rates
 
 
-class Plan(NamedTuple):
+class PlanInUse(NamedTuple):
     """A plan of an item that is in use for so many later periods: its question, and its policy by theory."""
 
     question: Question
@@ -163,10 +163,10 @@ class Walked:
         return self.happened.of_figures([self.plan] * self.happened.later)
 
     @cached_property
-    def refits(self) -> list[tuple[Plan, Figures]]:
+    def refits(self) -> list[tuple[PlanInUse, Figures]]:
         """Returns the plan and its refits, each with the policy that is in use if levels stay unless others gain the least
         gain beside. If a window has no plan, the last one is kept."""
-        refits = list[tuple[Plan, Figures]]()
+        refits = list[tuple[PlanInUse, Figures]]()
         question, best, stays = self.question, self.plan, self.plan
         for start, origin, end in self.walk.stretches(len(self.item.counts)):
             if origin > self.walk.record:
@@ -174,10 +174,10 @@ class Walked:
                     asked = self._asked(start, origin, stays.levels)
                     best, stays = chosen(asked)
                     question = asked
-            refits.append((Plan(question, best, end - origin), stays))
+            refits.append((PlanInUse(question, best, end - origin), stays))
         return refits
 
-    def run(self, plans: Sequence[Plan]) -> Run:
+    def run(self, plans: Sequence[PlanInUse]) -> MethodRun:
         """Returns the run of plans, each of which is in use for its later periods, and the first in the record too."""
         record = plans[0].figures.levels
         levels, promises = [record] * self.walk.record, list[tuple[float, float]]()
@@ -190,7 +190,7 @@ class Walked:
             for own, plan in zip(column, plans):
                 by_period += [own] * plan.periods
             aims.append(by_period)
-        return Run(levels, promises, aims)
+        return MethodRun(levels, promises, aims)
 
 
 def moved(levels: Levels, more: float) -> Levels:
@@ -200,7 +200,7 @@ def moved(levels: Levels, more: float) -> Levels:
     return point, point + S - s
 
 
-def today_of(walked: Walked) -> Run | None:
+def today_of(walked: Walked) -> MethodRun | None:
     """Returns today's policy, with what the plan says of it, and with both levels moved; None if there is none."""
     question, levels = walked.question, walked.item.levels
     if levels is None or question.levels is None:
@@ -213,20 +213,20 @@ def today_of(walked: Walked) -> Run | None:
     periods = len(happened.past.demands)
     aims = [[moved(levels, shift * spread)] * periods for shift in SHIFTS]
     promises = [(figures.cost, figures.fill)] * happened.later
-    return Run([levels] * periods, promises, aims)
+    return MethodRun([levels] * periods, promises, aims)
 
 
-def kept_of(walked: Walked) -> Run:
+def kept_of(walked: Walked) -> MethodRun:
     """Returns the plan of the record, which is kept."""
-    return walked.run([Plan(walked.question, walked.plan, walked.happened.later)])
+    return walked.run([PlanInUse(walked.question, walked.plan, walked.happened.later)])
 
 
-def refitted_of(walked: Walked) -> Run:
+def refitted_of(walked: Walked) -> MethodRun:
     """Returns plans that are refitted."""
     return walked.run([plan for plan, _ in walked.refits])
 
 
-def damped_of(walked: Walked) -> Run | None:
+def damped_of(walked: Walked) -> MethodRun | None:
     """Returns refitted plans whose levels stay if others gain too little; None without a least gain."""
     if walked.walk.least_gain is None:
         return None
@@ -235,10 +235,10 @@ def damped_of(walked: Walked) -> Run | None:
     for plan, stays in walked.refits:
         levels += [stays.levels] * plan.periods
         promises += [(stays.cost, stays.fill)] * plan.periods
-    return Run(levels, promises)
+    return MethodRun(levels, promises)
 
 
-def planned_of(method: str, walked: Walked) -> Run | None:
+def planned_of(method: str, walked: Walked) -> MethodRun | None:
     """Returns the plan of the record by the laws of the kept one, in the way of a method; or the kept one if the item has no
     policy so. None if the records teach no such way."""
     way = walked.ways.get(method)
@@ -251,7 +251,7 @@ def planned_of(method: str, walked: Walked) -> Run | None:
         )
         figures, _ = chosen(asked)
         question = asked
-    return walked.run([Plan(question, figures, walked.happened.later)])
+    return walked.run([PlanInUse(question, figures, walked.happened.later)])
 
 
 def month_of(season: InSeason, number: int) -> Stretch:
@@ -261,20 +261,20 @@ def month_of(season: InSeason, number: int) -> Stretch:
     return next(month for month in season.year if within < month.end)
 
 
-def seasonal_of(walked: Walked) -> Run | None:
+def seasonal_of(walked: Walked) -> MethodRun | None:
     """Returns the plan of the record by its months: the kept one if the item has no season; None if the records show
     none. A period has the levels of its month, by its number in the calendar, also if periods before it are not known.
     """
     way = walked.ways.get(SEASONAL)
     if way is None:
         return None
-    plans = list[Plan]()
+    plans = list[PlanInUse]()
     with contextlib.suppress(Refused):
         plans = months_planned(walked, way)
     return walked.run(plans) if plans else kept_of(walked)
 
 
-def months_planned(walked: Walked, way: Way) -> list[Plan]:
+def months_planned(walked: Walked, way: Way) -> list[PlanInUse]:
     """Returns the plans of the later periods of an item by their months; none without a season. Raises Refused if it
     could not be planned so."""
     item, window = walked.as_read, way.settings.window
@@ -283,34 +283,34 @@ def months_planned(walked: Walked, way: Way) -> list[Plan]:
     season = question.season
     if season is None:
         return []
-    known, plans = dict[Stretch, tuple[Question, Figures]](), list[Plan]()
+    known, plans = dict[Stretch, tuple[Question, Figures]](), list[PlanInUse]()
     numbers = [item.first + place for place in walked.later]
     for month, own in itertools.groupby(numbers, partial(month_of, season)):
         if month not in known:
             asked = question.month(month)
             known[month] = asked, chosen(asked)[0]
-        plans.append(Plan(*known[month], len([*own])))
+        plans.append(PlanInUse(*known[month], len([*own])))
     return plans
 
 
-def followed_of(walked: Walked) -> Run | None:
+def followed_of(walked: Walked) -> MethodRun | None:
     """Returns plans that are refitted, at the level of their last periods: at that of the record for items whose class
     does not follow it. None if the records show no class that does."""
     way = walked.ways.get(FOLLOWED)
     if way is None or way.settings.following is None:
         return None
-    plans = list[Plan]()
+    plans = list[PlanInUse]()
     for plan, _ in walked.refits:
         asked = plan.question
         level = way.settings.following.at_level(asked.item, asked.demand)
         with contextlib.suppress(Refused):
             moved_so = asked.moved(level, None)
-            plan = Plan(moved_so, chosen(moved_so)[0], plan.periods)
+            plan = PlanInUse(moved_so, chosen(moved_so)[0], plan.periods)
         plans.append(plan)
     return walked.run(plans)
 
 
-def smoothed_of(walked: Walked) -> Run:
+def smoothed_of(walked: Walked) -> MethodRun:
     """Returns the rule of thumb, which promises nothing."""
     past, lead = walked.happened.past, walked.question.lead.figures
     net = [asked - back for asked, back in zip(past.demands, past.returns)]
@@ -318,7 +318,7 @@ def smoothed_of(walked: Walked) -> Run:
     for share in (wanted, *aims_about(wanted)):
         levels = smoothed_levels(walked.item, share, net, lead.mean, lead.variance or 0)
         runs.append([*levels])
-    return Run(runs[0], aims=runs[1:])
+    return MethodRun(runs[0], aims=runs[1:])
 
 
 @dataclass(frozen=True)
@@ -327,7 +327,7 @@ class Method:
     whether it promises anything, and its levels change."""
 
     code: str
-    run: Callable[[Walked], Run | None]
+    run: Callable[[Walked], MethodRun | None]
     is_promising: bool = True
     is_changing: bool = False
 

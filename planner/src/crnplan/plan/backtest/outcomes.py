@@ -16,7 +16,7 @@ from typing import NamedTuple
 
 import numpy as np
 
-from ...crnsim.periods import Past, Period, Rates, periods_of
+from ...crnsim.periods import Realization, Period, Rates, periods_of
 from ...demand.fitted import FittedLaw
 from ...read.item import Item
 from ..answer import Figures
@@ -43,7 +43,7 @@ class Outcome:
     unmet: tuple[int, ...]
 
 
-class Run(NamedTuple):
+class MethodRun(NamedTuple):
     """s and S of each period by a method; the cost and the fill rate that it promised for each later one, none if it
     promises nothing; and s and S of each period at each of several aims, the lowest first, none if it has no others.
     """
@@ -71,7 +71,7 @@ class Happened:
         """Draws the lead times of orders from their law."""
         periods, self.record = len(item.counts), record
         random = np.random.default_rng(seed)
-        self.past = Past(
+        self.past = Realization(
             item.counts,
             item.returns or (0,) * periods,
             lead.draws(random, periods),
@@ -124,7 +124,7 @@ class Happened:
             tuple(unmet),
         )
 
-    def traced(self, run: Run) -> Traced:
+    def traced(self, run: MethodRun) -> Traced:
         """Returns what a method comes to, also at its other aims."""
         outcome = self.outcome(run.levels, run.promises)
         unmet, stocks = list[tuple[int, ...]](), list[tuple[int, ...]]()

@@ -20,7 +20,7 @@ import numpy as np
 
 from ...chances import Floats
 from ...remarks import Remark, Value
-from .curves import Curve, Reading
+from .curves import Curve, CurveReading
 from .estimates import ALARM, NO_BLOCK, Estimate, Ratio, error_of
 from .methods import KEPT, METHODS, Method
 from .one import Backtest
@@ -68,7 +68,7 @@ class Equal(NamedTuple):
     spent: Estimate
 
 
-class Group:
+class TestGroup:
     """The tests of items of a class, or of all, as ratios of sums over items and periods; or what came of an earlier
     plan in the periods since."""
 
@@ -155,7 +155,7 @@ class Group:
         return halves[0].less(halves[1])
 
 
-class Sides(Group):
+class Sides(TestGroup):
     """The tests of items of a class, or of all, with methods side by side."""
 
     def __init__(self, tests: Sequence[Backtest]) -> None:
@@ -209,7 +209,7 @@ class Sides(Group):
         spent = own.with_more(ordering[0]), kept.with_more(ordering[1])
         return Equal(1 - share, self._more(own, kept), self._more(*spent))
 
-    def _more(self, own: Reading, kept: Reading) -> Estimate:
+    def _more(self, own: CurveReading, kept: CurveReading) -> Estimate:
         """Returns what is above the kept plan, as a share."""
         more, influence = own.beside(kept)
         return Estimate(more, *error_of(influence, self.items, self.blocks))
@@ -261,7 +261,7 @@ class Sums:
     @classmethod
     def of(cls, group: str, tests: Sequence[Backtest]) -> Sums:
         """Adds up tests."""
-        parts = Group(tests)
+        parts = TestGroup(tests)
         missed, chance = parts.missed(), parts.by_chance(tests)
         broken = above = 0
         for test in tests:
