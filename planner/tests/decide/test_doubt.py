@@ -73,4 +73,4 @@ def test_figures_are_those_of_each_law(part: crn.Scenario) -> None:
     back = part.changed(returns={0: 1, 6: 1})
     demands = allowed_laws(HISTORY, times=30)
     some = figures_of_laws(back, [(it, part.lead) for it in demands], part.policies)
-    assert 0 < len(some.laws) < 30
+    assert 0 < len(some.cost) < 30
