@@ -12,14 +12,7 @@ from .errors import Refused, argument
 from .money import exact, whole_in
 from .options import SEEN, Option, option, table_of
 from .toml.documents import shown
-from .vocabulary import (
-    UNNAMED,
-    ReadArgument,
-    read_argument,
-    read_flag,
-    read_text,
-    several,
-)
+from .vocabulary import UNNAMED, Read, read_argument, read_flag, read_text, several
 
 Call = TypeVar("Call", bound=Callable[..., Any])
 Judge = Callable[[Option, Any], Any]  # reads an argument by its word
@@ -27,7 +20,7 @@ OWN = ("self", "cls")  # what a method is called on
 MOST_OF_NAME = 255  # bytes of the name of a file, on Linux
 
 
-def judge_of(read: ReadArgument) -> Judge:
+def judge_of(read: Read) -> Judge:
     """Returns what reads arguments alike, whatever their words, and then looks at the choices and the range of a word."""
 
     def judge(word: Option, value: Any) -> Any:
