@@ -10,6 +10,7 @@ from pathlib import Path
 import numpy as np
 import pytest
 
+import crnplan as crn
 from crnplan.demand.learning import Prior
 from crnplan.errors import Refused
 from crnplan.plan.answer import Answer
@@ -57,9 +58,9 @@ def test_stretches_by_hand() -> None:
 
 
 @pytest.mark.parametrize("field", ["record", "every", "window"])
-def test_no_periods_are_refused(field: str) -> None:
-    with pytest.raises(Refused, match=f"{field}.*0"):
-        Walk(**{field: 0})
+def test_no_periods_are_refused(field: str, tmp_path: Path) -> None:
+    with pytest.raises(Refused, match=f"{field}=0 is not at least 1"):
+        crn.backtest(tmp_path, **{field: 0})
 
 
 @pytest.mark.parametrize("place", range(5))
