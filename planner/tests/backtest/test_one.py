@@ -185,7 +185,7 @@ def test_steady_item() -> None:
         3,
         0.5,
     )
-    assert test.above == test.shuffled_above == 1
+    assert test.above == 1
     assert test.mean == 6
 
 

@@ -77,7 +77,6 @@ def made(
         "smoothed": kept,
         "shuffled": outcome(by_chance),
         "shuffled_demands": demands,
-        "shuffled_above": 0.9,
     }
     return Backtest(**facts | changed)
 

@@ -56,19 +56,16 @@ class Since:
 class Change:
     """What has changed of an item. `earlier` is the policy of the earlier plan as that saw it, `before` the same by the
     law that the item has now, `after` the policy that it has now, and `undamped` what it would have if the earlier one
-    did not stay. `reasons` say why. `price` is what an item costs that is not met at once, of one that is planned
+    did not stay. `law` is the one that it has now. `reasons` say why. `price` is what an item costs that is not met at once, of one that is planned
     together with others: in money."""
 
     name: str
-    description: str
-    group: str
     kind: str
     earlier: Figures | None = None
     before: Figures | None = None
     after: Figures | None = None
     undamped: Figures | None = None
-    law_before: LawFacts | None = None
-    law_after: LawFacts | None = None
+    law: LawFacts | None = None
     reasons: tuple[Remark, ...] = ()
     since: Since | None = None
     price: float = 0.0
@@ -77,10 +74,10 @@ class Change:
     def gain(self) -> float | None:
         """Returns what the change gains, or would gain, in money of a period by the law that the item has now: of its
         cost, and of what is not met at once by its price."""
-        best, law = self.undamped or self.after, self.law_after
-        if self.before is None or best is None or law is None:
+        best = self.undamped or self.after
+        if self.before is None or best is None or self.law is None:
             return None
-        met = law.mean * (best.fill - self.before.fill)
+        met = self.law.mean * (best.fill - self.before.fill)
         return self.before.cost - best.cost + self.price * met
 
 
@@ -202,16 +199,14 @@ def change_of(
     old, new, left = pair
     item, _ = new or old or (None, None)
     assert item is not None
-    change = Change(item.name, item.description, item.category, GONE)
+    change = Change(item.name, GONE)
     if old:
         earlier, gone = old[1], left or Remark("not in the files")
-        change = dataclasses.replace(
-            change, earlier=earlier.chosen, law_before=earlier.law, reasons=(gone,)
-        )
+        change = dataclasses.replace(change, earlier=earlier.chosen, reasons=(gone,))
     if new is None:
         return change
     answer, kind, period = new[1], MOVED, item.first + len(item.counts)
-    change = dataclasses.replace(change, after=answer.chosen, law_after=answer.law)
+    change = dataclasses.replace(change, after=answer.chosen, law=answer.law)
     if old is None:
         reason = Remark("new item", {"periods": len(item.counts)})
         return dataclasses.replace(change, kind=NEW, reasons=(reason,))

@@ -57,7 +57,6 @@ class Backtest:
     smoothed: Traced
     shuffled: Outcome | None
     shuffled_demands: tuple[int, ...]
-    shuffled_above: float | None
 
 
 def ratio(demands: Sequence[int], record: int) -> float | None:
@@ -107,7 +106,6 @@ def backtest_one(
         **traced,
         shuffled=beside,
         shuffled_demands=other.counts[record:],
-        shuffled_above=ratio(other.counts, record),
     )
 
 
