@@ -21,7 +21,7 @@ from crnplan.given import words_of
 from crnplan.plan import what_ifs
 from crnplan.plan.how import Settings
 from crnplan.read.items import Reading
-from crnplan.read.told import COLUMNS
+from crnplan.read.configuration import COLUMNS
 from crnplan.table import Column
 from crnplan.theory import suggestions
 

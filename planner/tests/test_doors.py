@@ -22,7 +22,7 @@ from crnplan.spelling import spelt
 from crnplan.given import joined, taken
 from crnplan.plan.settings import CONFIG, read_config
 from crnplan.read.columns import ROLES
-from crnplan.read.told import made_from, told_of
+from crnplan.read.configuration import made_from, told_of
 from crnplan.vocabulary import FLAG, PAIRS, Word
 
 # Texts that each door can say, and values that a call and a file can.

@@ -31,8 +31,8 @@ from .read.opening import Table
 from .read.law_forms import LAWS
 from .read.spans import OUT
 from .read.overriding import set_overrides
-from .read.stated import StatedTable, laws_frame
-from .read.told import made_from
+from .read.stated_laws import StatedTable, laws_frame
+from .read.configuration import made_from
 from .vocabulary import words_in
 
 

@@ -36,8 +36,8 @@ from .read.lateness import receipt_remarks
 from .read.law_forms import LAWS
 from .read.spans import OUT
 from .read.opening import Table
-from .read.stated import StatedTable, laws_frame
-from .read.told import merged, told_of
+from .read.stated_laws import StatedTable, laws_frame
+from .read.configuration import merged, told_of
 from .remarks import Remark
 from .table import Json
 from .words import advised, sentence

@@ -12,7 +12,7 @@ from .options import CALL, SEEN
 from .plan.how import Settings
 from .plan.settings import read_config as config_in
 from .read.items import Reading
-from .read.told import made_from
+from .read.configuration import made_from
 from .vocabulary import Vocabulary, Word, words_in
 
 Call = TypeVar("Call", bound=Callable[..., Any])

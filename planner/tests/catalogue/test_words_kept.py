@@ -22,7 +22,7 @@ from crnplan.read.catalogue_reading import READ
 from crnplan.read.cells import Unreadable
 from crnplan.read.dates import DateReader
 from crnplan.read.items import Reading
-from crnplan.read.told import made_from, merged, told_of
+from crnplan.read.configuration import made_from, merged, told_of
 from crnplan.toml.rules import TableCheck
 from planner.tests.catalogue.conftest import TABLES
 from planner.tests.conftest import Answer, Command

@@ -16,7 +16,7 @@ from crnplan.desk.work import STOPPED, TESTING
 from crnplan.read.overrides import SET_LEVELS, DeskOverride as Stated
 from crnplan.read.overriding import read_overrides
 from crnplan.read.items import Reading
-from crnplan.read.told import made_from
+from crnplan.read.configuration import made_from
 from planner.tests.conftest import shared
 from planner.tests.desk.conftest import (
     MADE_PLAN,

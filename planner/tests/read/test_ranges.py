@@ -18,7 +18,7 @@ from crnplan.store.jobs import Workers
 from crnplan.read import sources
 from crnplan.read.blocks import Sizes
 from crnplan.read.headings import find_columns
-from crnplan.read.filed import CataloguePart, read_tables
+from crnplan.read.table_files import CataloguePart, read_tables
 from crnplan.read.items import Reading
 from crnplan.read.rows import Rows, rows_of
 from crnplan.read.opening import opened

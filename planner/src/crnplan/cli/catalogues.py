@@ -31,7 +31,7 @@ from ..read.items import Reading
 from ..read.law_forms import LAWS
 from ..read.spans import OUT
 from ..read.overriding import set_overrides
-from ..read.told import made_from, merged, stated
+from ..read.configuration import made_from, merged, stated
 from . import known_words, note
 from .words import command
 

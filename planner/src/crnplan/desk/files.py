@@ -20,7 +20,7 @@ from ..read.encodings import USUAL
 from ..read.looks import Look, likeliest, looks_as, words_with
 from ..read.items import Reading
 from ..read.stock import ON_ORDER
-from ..read.told import made_from
+from ..read.configuration import made_from
 from ..read.workbooks import sheets_of
 from ..show.catalogue_tables import REJECTS, reasons_of, rejects_of
 from ..show.control_tables import controls_of

@@ -12,7 +12,7 @@ from ..errors import Refused
 from ..given import words_of
 from ..plan.how import Settings
 from ..read.items import Reading
-from ..read.told import made_from
+from ..read.configuration import made_from
 from ..vocabulary import FLAG, PAIRS, TEXTS, Word, plain
 from .files import read_anew, read_last, said_of
 from .front import Front, front, page

@@ -15,7 +15,7 @@ from ..read.items import Reading
 from ..read.several import open_tables
 from ..read.sources import Row
 from ..read.stock import ON_ORDER, STOCK, read_holdings
-from ..read.told import made_from
+from ..read.configuration import made_from
 from ..show.today_tables import OrderDays
 from .front import Front
 from .kept import OF_MASTERS, TODAY, Desk, Dropped, Placed

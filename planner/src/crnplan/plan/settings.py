@@ -10,7 +10,7 @@ from typing import Any
 from ..errors import Refused
 from ..read.columns import ROLES
 from ..read.items import Reading
-from ..read.told import COLUMNS
+from ..read.configuration import COLUMNS
 from ..toml.documents import Path as Place, TreeFault
 from ..toml.rules import RANGE, Check, TableCheck, no_faults, read_tables
 from ..vocabulary import RefusedEntries, Word, words_in

@@ -21,12 +21,12 @@ from ..remarks import Remark, Value
 from ..store.stored import StoredCell, Opened, check_whole, quoted, reading
 from ..words import message
 from .blocks import Sizes
-from .choosing import said_of_marks
+from .marks import said_of_marks
 from .columns import converted, is_converted
 from .controls import Controls, controls_in, counts_of, together, tree_of
 from .defaults import CLASS, DEFAULT, ORDERS, SOURCES, distinct
-from .filed import FiledTable, WholeTables, read_tables
-from .found import found_of
+from .table_files import FiledTable, WholeTables, read_tables
+from .table_facts import found_of
 from .item import NEW, NO_DEMAND, PHASE_OUT, PLANNED, STOPPED, Item
 from .items import Counts, FileCounts, Reject, Reading
 from .opening import Table
@@ -41,10 +41,10 @@ from .parts import (
     read_parts,
 )
 from .repeated import files_within, zeros_apart
-from .settled import settle_times
+from .time_units import settle_times
 from .several import open_tables
 from .successors import succeeded
-from .told import told_of
+from .configuration import told_of
 
 CATALOGUE = "catalogue"  # the kind of the folder
 READ = f"{IN_KEPT}catalogue.sqlite"

@@ -15,7 +15,7 @@ from ..errors import RefusedFaults
 from ..remarks import Remark, Value
 from ..table import names_of
 from .amounts import AMOUNTS, ITEM, UNITS
-from .asked import Match, drop_units, narrowed, parted, words_of
+from .column_words import Match, drop_units, narrowed, parted, words_of
 from .cells import HEADINGS, plain_name
 from .law_forms import LAWS
 from .sources import WIDE_ROLES, SourceColumn, Sheet

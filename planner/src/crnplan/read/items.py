@@ -31,7 +31,7 @@ from ..vocabulary import (
     table_in,
     word,
 )
-from .choosing import conditions_in
+from .marks import conditions_in
 from .columns import ROLES, unit_fault
 from .dates import EVERY
 from .defaults import KEEP, LEAVE_OUT, Defaults

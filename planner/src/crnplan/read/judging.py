@@ -46,7 +46,7 @@ def _tables(word: Option, value: Any) -> Any:
 
 
 def _laws(word: Option, value: Any) -> Any:
-    from .stated import laws_frame
+    from .stated_laws import laws_frame
 
     return _table(word, laws_frame(value))
 

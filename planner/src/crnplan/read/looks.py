@@ -15,7 +15,7 @@ from typing import Any
 from ..errors import Fault, Refused, RefusedFaults
 from ..remarks import Remark
 from ..store.digests import digest_of
-from .asked import ORDERED
+from .column_words import ORDERED
 from .cells import text_of
 from .columns import NEEDED, TWO_COLUMNS
 from .headings import columns_in, find_heading

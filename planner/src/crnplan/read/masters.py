@@ -23,7 +23,7 @@ from .columns import (
 )
 from .dates import period_of
 from .defaults import DEFAULT, MASTERS, ORDERS, currency_in, distinct
-from .filed import SPANS, WholeTables
+from .table_files import SPANS, WholeTables
 from .item import BORROW, Item, value_of
 from .items import Reading
 from .leads import counts_receipts, leads_from

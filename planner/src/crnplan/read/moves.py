@@ -6,7 +6,7 @@ from typing import NamedTuple
 
 import numpy as np
 
-from .asked import MARKS
+from .column_words import MARKS
 from .cells import (
     Cell,
     CellFault,

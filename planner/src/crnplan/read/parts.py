@@ -11,10 +11,10 @@ from pathlib import Path
 
 from ..store.jobs import Workers
 from ..store.stored import StoredColumns, quoted
-from .choosing import split_items
+from .marks import split_items
 from .classes import abc_of
 from .controls import Controls
-from .filed import FiledTable, CataloguePart, WholeTables
+from .table_files import FiledTable, CataloguePart, WholeTables
 from .item import Item
 from .items import Reject, Reading
 from .reader import Reader

@@ -12,11 +12,11 @@ import numpy as np
 from ..formats import MOST_ITEMS
 from ..remarks import Remark, Value
 from .cells import UNPRINTABLE, Flags, Numbers, fault, named_lines, text_of
-from .choosing import named_values, places_of
+from .marks import named_values, places_of
 from .controls import Controls, controls_of, together
 from .dates import period_name, periods_of_days
 from .defaults import LEAVE_OUT
-from .filed import WholeTables
+from .table_files import WholeTables
 from .item import PHASE_OUT, STOPPED, Item, overridden, some
 from .items import OUTSIDE, Left, Reject, Reading
 from .leads import remark_on
@@ -29,7 +29,7 @@ from .repeated import is_called_total, total_rows
 from .rows import Rows
 from .spans import NO_SPANS, OUT, outages_in, receipts_in
 from .sources import NONE
-from .stated import StatedLaws
+from .stated_laws import StatedLaws
 from .status import BY_TEST, past_of
 from .tables import OPEN, PLACES, REJECTED, USED, WITH_ITEM, TableReader
 

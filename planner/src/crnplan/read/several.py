@@ -8,7 +8,7 @@ from pathlib import Path
 
 from ..errors import Fault, RefusedFaults
 from ..remarks import Remark
-from .choosing import faults_of_where, marks_of
+from .marks import faults_of_where, marks_of
 from .headings import find_columns
 from .items import Reading
 from .opening import LOCK, Table, opened

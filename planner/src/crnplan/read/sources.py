@@ -23,7 +23,7 @@ from ..remarks import Remark, Value
 from ..toml import documents
 from ..vocabulary import TEXTS, Kind, Vocabulary, choice, read_text, several, word
 from .amounts import DECIMALS
-from .asked import is_base
+from .column_words import is_base
 from .cells import Cell, shown, text_of
 from .dates import check_format
 from .encodings import likely_encodings

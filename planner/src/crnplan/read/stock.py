@@ -15,9 +15,9 @@ import numpy as np
 from ..errors import Fault, RefusedFaults
 from ..remarks import Remark, Value
 from .amounts import AMOUNTS
-from .asked import ORDERED
+from .column_words import ORDERED
 from .cells import CellFault, Flags, fault, reason_of, text_of
-from .choosing import (
+from .marks import (
     PLACE,
     closed_rows,
     question,

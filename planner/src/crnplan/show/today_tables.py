@@ -26,7 +26,7 @@ from ..read.item import PHASE_OUT
 from ..read.items import Reading
 from ..read.observed import Day, stated_day
 from ..read.opening import Table
-from ..read.told import made_from, merged, told_of
+from ..read.configuration import made_from, merged, told_of
 from ..table import DataTable, Json, Result, names_of
 from ..words import counted
 from .catalogue_tables import (

@@ -29,7 +29,7 @@ from planner.tests.read.catalogues import (
     weekly,
 )
 
-CASES = cases_of("stated")
+CASES = cases_of("stated_laws")
 
 
 def read(laws: Any, *history: str, **words: Any) -> crn.Catalogue:

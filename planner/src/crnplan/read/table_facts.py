@@ -10,11 +10,11 @@ from .blocks import DATES
 from .cells import Unreadable, on_one_line, text_of
 from .columns import ROLES
 from .dates import DateReader
-from .filed import FiledTable, WholeTables
+from .table_files import FiledTable, WholeTables
 from .items import Reading
 from .sources import TextSheet
 from .times import TimeReader
-from .told import WRITTEN
+from .configuration import WRITTEN
 
 SIDES = {
     "/": "slashes",

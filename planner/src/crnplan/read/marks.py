@@ -14,7 +14,7 @@ from ..errors import Fault, Refused
 from ..remarks import Remark, Value
 from ..vocabulary import read_text, several
 from .amounts import ITEM, UNITS
-from .asked import (
+from .column_words import (
     BARE,
     CLOSED,
     COUNT,

@@ -8,14 +8,14 @@ import pandas as pd
 import pytest
 
 import crnplan as crn
-from crnplan.read.choosing import Condition, conditions_of, use_of
+from crnplan.read.marks import Condition, conditions_of, use_of
 from crnplan.read.items import Reading
 from crnplan.read.stock import Holdings, read_holdings
 from crnplan.catalogues import Catalogue
 from crnplan.words import advised, sentence
 from planner.tests.read.catalogues import cases_of, items_of, read_text
 
-CASES = cases_of("choosing")
+CASES = cases_of("marks")
 MASTERS = "item,setup,holding (per week),backlog (per week),lead (weeks)\nA,20,0.06,0.9,2\nB,20,0.06,0.9,2\n"
 # The same with places, of which item A has two.
 PLACED = (

@@ -14,7 +14,7 @@ from ..errors import Fault, RefusedFaults
 from ..remarks import Remark, Value
 from .cells import Cell, Unreadable
 from .columns import DAYS
-from .filed import FiledTable, CataloguePart, WholeTables
+from .table_files import FiledTable, CataloguePart, WholeTables
 from .rows import Rows
 from .tables import TableReader
 from .times import TimeReader
