@@ -41,11 +41,12 @@ def _months_in(is_official: bool) -> Months:
     from babel import Locale, localedata
     from babel.core import get_global
 
-    official = set[str]()
-    for languages in get_global("territory_languages").values():
-        for language, facts in languages.items():
-            if facts.get("official_status") in OFFICIAL:
-                official.add(language)
+    official = {
+        language
+        for languages in get_global("territory_languages").values()
+        for language, facts in languages.items()
+        if facts.get("official_status") in OFFICIAL
+    }
     months: Months = {}
     loaded = getattr(localedata, "_cache", {})
     for language in sorted(localedata.locale_identifiers()):

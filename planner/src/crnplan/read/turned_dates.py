@@ -41,10 +41,9 @@ def pattern_of(parts: Written) -> str:
     return f"{first}{sign}{'%Y' if len(parts.year) == 4 else '%y'}"
 
 
-def is_ordered(days: Sequence[Day | None]) -> bool:
+def is_ordered(days: list[Day]) -> bool:
     """Returns whether days are in order, forwards or backwards."""
-    known = [*filter(None, days)]
-    return known in (sorted(known), sorted(known, reverse=True))
+    return days in (sorted(days), sorted(days, reverse=True))
 
 
 def day_of_sheet(cell: Cell, parts: Written | None) -> Day | None:
@@ -70,13 +69,13 @@ def day_of_text(parts: Written) -> Day | None:
 def turned(column: Sequence[Cell]) -> Turned:
     """Returns which dates of a column, whose cells are in the order of their rows, have day and month interchanged."""
     read = dict[Cell, Day]()
-    days = dict[Cell, Day | None]()
     texts = dict[str, Written]()
+    days = dict[Cell, Day | None]()  # of all of these
     for cell in column:
         parts = written(cell) if isinstance(cell, str) else None
         day = day_of_sheet(cell, parts)
         if day:
-            read[cell] = day
+            days[cell] = read[cell] = day
         elif parts and parts.form in SIGNED:
             days[cell] = day_of_text(parts)
             texts[str(cell)] = parts
@@ -84,13 +83,12 @@ def turned(column: Sequence[Cell]) -> Turned:
     is_like_it = len(sides) == 1 and None not in days.values() and bool(read)
     if not is_like_it or max(day.day for day in read.values()) > 12:
         return Turned(dict.fromkeys(read, False))
-    sound = list[Day | None]()
-    other = list[Day | None]()
-    for cell in column:
-        if cell in read or cell in days:
-            day = read.get(cell) or days[cell]
+    sound = list[Day]()
+    other = list[Day]()
+    for day, cell in ((days.get(cell), cell) for cell in column):
+        if day:
             sound.append(day)
-            other.append(interchanged(read[cell]) if cell in read else day)
+            other.append(interchanged(day) if cell in read else day)
     is_turned = is_ordered(other)
     decides = is_ordered(sound) != is_turned and len(sound) >= LEAST_ORDERED
     text, parts = next(iter(texts.items()))
