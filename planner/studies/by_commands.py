@@ -11,8 +11,8 @@ movements by day up to the day of the plan, and of masters. `crnplan plan` plans
 decisions.csv for items that have none there. Order of events: docs/DEFINITIONS.md. An item begins with a stock halfway
 from s to S in the first week that has a plan of it.
 
-- `item`: each item meets the wanted share; `item, flat`: with `--season none`.
-- `together, corrected`: all items by one price of what is not met, found on the past (`--together`, `--correct`).
+- `item`: each item meets the wanted share; `item, flat`: with `--set season=none`.
+- `together, corrected`: all items by one price of what is not met, found on the past (`--together`, `correct`).
 - `cost`: each item has a backlog cost of nine times its holding cost.
 
 Sums are by value, as those of `--together` are. `peak` is of the 13 weeks in a row in which most is asked for of a class.
@@ -65,7 +65,7 @@ class Way(NamedTuple):
     shares: tuple[str, ...] = ("95%", "98%")
 
 
-CORRECT, FLAT = ("--correct",), ("--season", "none")
+CORRECT, FLAT = ("--set", "correct=true"), ("--set", "season=none")
 WAYS = {
     "item": Way(("--fill",)),
     "item, flat": Way(("--fill",), FLAT, ("95%", "99%")),
@@ -132,7 +132,14 @@ def planned(room: Path, shop: Shop, case: Case, week: int, last: Path | None) ->
     out = room / f"plan {week}"
     words = [
         *("plan", room / "sales.csv", room / "articles.csv", "--out", out),
-        *("--to", day - timedelta(1), "--holding-rate", "20%", "--jobs", 1),
+        *(
+            "--set",
+            f"to={day - timedelta(1)}",
+            "--set",
+            "holding_rate=20%",
+            "--jobs",
+            1,
+        ),
         *("--config", room / "settings.toml", *case.words),
         *(["--after", last] if last else []),
     ]

@@ -8,7 +8,7 @@ which fill rate to aim: that at which the items of a set have met the wanted one
 
 - `none`: aims at the wanted fill rate.
 - `half`: the second half of the record is met by plans from the first.
-- `blocks`: each quarter of it is met by plans from the other three, as `crnplan plan --correct` learns.
+- `blocks`: each quarter of it is met by plans from the other three, as `crnplan plan --set correct=true` learns.
 - `walk`: each eighth of the second half is met by plans from all before it.
 
 `class` learns a rate for slow items and one for fast ones, else one is learned for all. None is below the wanted one or

@@ -4,7 +4,7 @@
     python -m planner.studies.costs --small                                    a few items, in some seconds
 
 Sets are those of `correction.py`, but for epidemics. A period late costs 9 times as much as one in stock, or 49 times.
-Each quarter of a record is planned from the other three, as `crnplan plan --correct` does: what these plans cost
+Each quarter of a record is planned from the other three, as `crnplan plan --set correct=true` does: what these plans cost
 over what they promised is the factor of the promise, for slow items and for fast ones. Plans of the record are judged on
 the periods after it: `kept`, or `refitted` after each 13 periods on the last 52.
 

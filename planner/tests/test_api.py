@@ -176,7 +176,7 @@ def test_completion(crnplan: Command, monkeypatch: pytest.MonkeyPatch) -> None:
     ):
         monkeypatch.setenv(name, value)
     assert crnplan() == (0, "plain,where\n", "")
-    assert Spelling("report")("end", "") == "--to"
+    assert Spelling("report")("end", "") == "--set to"
 
 
 @pytest.mark.parametrize("command, name, spelt", CASES["spelling"])

@@ -67,7 +67,7 @@ def of_days() -> list[str]:
     return [
         "--every",
         "day",
-        *(f"--unit=items.{name}=day" for name in ("holding", "backlog", "lead")),
+        *(f"--set=units.items.{name}=day" for name in ("holding", "backlog", "lead")),
     ]
 
 
@@ -90,7 +90,7 @@ def test_days_at_the_ends_of_the_record(
             *([str(day), "A", number % 3 + 1] for number, day in enumerate(days)),
         ],
     )
-    words = {"from": ["--from", str(first)], "to": ["--to", str(today)]}
+    words = {"from": ["--set", f"from={first}"], "to": ["--set", f"to={today}"]}
     words |= {"neither": [], "both": words["from"] + words["to"]}
     told = catalogue(crnplan, ["A"], "--program", program, *of_days(), *words[stated])
     rejected = {row["line"] for row in rejects() if row["kind"] == "row"}
@@ -127,7 +127,13 @@ def test_how_many_items_are_learned_from(
         ],
     )
     told = catalogue(
-        crnplan, names, "--borrow", borrow, "--program", program, teachers=names[2:]
+        crnplan,
+        names,
+        "--set",
+        f"borrow={borrow}",
+        "--program",
+        program,
+        teachers=names[2:],
     )
     assert (
         told.status == 0

@@ -287,7 +287,7 @@ from planner.bench.made import make
 
 folder, program = Path(sys.argv[1]), sys.argv[2]
 paths, plan = make(folder / "files", 40).paths, str(folder / "plan")
-commands = [["plan", str(paths["demand"]), str(paths["items"]), "--orders", str(paths["orders"]), "--out", plan,
+commands = [["plan", str(paths["demand"]), str(paths["items"]), str(paths["orders"]), "--out", plan,
              "--jobs", "1", "--program", program],
             ["curve", plan, "--jobs", "1"], ["backtest", plan, "--jobs", "1"],
             ["report", plan, "--jobs", "1", "--program", program]]

@@ -70,6 +70,7 @@ Outcome = tuple[str, Any]
 Door = Callable[[Word, Any, Path], dict[str, Any]]
 KNOWN = known_words()
 OPTIONS = {option.name for option in options_of("plan")}
+TABLES = tuple(f"{kind}." for kind in ROLES)
 
 
 class KeptWords:
@@ -96,8 +97,9 @@ def by_call(word: Word, value: Any, folder: Path) -> dict[str, Any]:
 
 
 def by_option(word: Word, value: Any, folder: Path) -> dict[str, Any]:
-    words = [word.flag] if word.kind.shape == FLAG else [word.flag, value]
-    asked = plan.make_context("plan", ["demand", "items", *words]).params
+    entry = value if word.name == "columns" else f"{word.key}={value}"
+    words = [word.flag, value] if word.name in OPTIONS else ["--set", entry]
+    asked = plan.make_context("plan", ["files", *words]).params
     return meaning(words_of(asked, {}))
 
 
@@ -130,7 +132,8 @@ def doors_of(word: Word, value: Any) -> Iterator[Door]:
     is_columns = isinstance(value, Mapping) and value.keys() <= ROLES.keys()
     if word.key and (word.name != "columns" or is_columns):
         yield by_file
-    if is_text and word.name in OPTIONS and word.kind.shape != FLAG:
+    is_column = word.name != "columns" or str(value).startswith(TABLES)
+    if is_text and word.key and is_column:
         yield by_option
     is_named = word.kind.shape != PAIRS or "=" in str(value) or word.name == "together"
     if is_text and word.name in WORDS and word.kind.shape != FLAG and is_named:

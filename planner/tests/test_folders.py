@@ -248,7 +248,7 @@ def test_a_damaged_store(
 
 def test_a_plan_that_was_refused(room: Path, crnplan: Command) -> None:
     """Finds no plan in a folder of which only the rows were read: one item is too few to learn from."""
-    assert crnplan(*CATALOGUE, "--borrow", "all").status == 2
+    assert crnplan(*CATALOGUE, "--set", "borrow=all").status == 2
     assert (room / "plan" / ANSWERS).is_file()
     assert crnplan(*REPORT).refuses("plan: no plan is in it")
 

@@ -5,6 +5,9 @@ import pytest
 
 from crnplan.cli import COMMANDS, options_of
 from crnplan.options import CALL, Option, declared, option, table_of, within
+from planner.tests.conftest import Command
+
+MOST_OPTIONS, MOST_LINES = 16, 100
 
 OF_CALLS = (
     CALL,
@@ -31,6 +34,17 @@ def test_each_word_is_used() -> None:
     assert len({word.flag for word in options_of("plan")}) == len(
         COMMANDS["plan"]["options"]
     )
+
+
+@pytest.mark.parametrize("name", COMMANDS)
+def test_options_of_a_command(
+    name: str, crnplan: Command, monkeypatch: pytest.MonkeyPatch
+) -> None:
+    """A command has at most 16 options and arguments, and its help fits on two screens."""
+    assert len(options_of(name)) <= MOST_OPTIONS
+    monkeypatch.setenv("COLUMNS", "80")
+    lines = crnplan(name, "--help").output.splitlines()
+    assert len(lines) <= MOST_LINES and max(map(len, lines)) <= 80
 
 
 def test_references() -> None:

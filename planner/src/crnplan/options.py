@@ -34,7 +34,7 @@ class Option:
       scheduler; class (a value of the class `read`); document (a text, or its bytes), generator (of random numbers); any
       (what the call itself judges)
 
-    An option may be `required`. A `default` may be `shown`.
+    A `default` may be `shown`.
     """
 
     name: str
@@ -47,7 +47,6 @@ class Option:
     range: Sequence[int] = ()
     default: Any = None
     shown: bool = False
-    required: bool = False
     positional: bool = False
     nargs: int = 1
 

@@ -88,8 +88,8 @@ def room(made: Path, tmp_path: Path, monkeypatch: pytest.MonkeyPatch) -> Path:
 @pytest.mark.parametrize(
     "kind, said, words",
     [
-        ("moved", "refitted", ("--window", "13")),
-        ("lumpy", "corrected", ("--correct",)),
+        ("moved", "refitted", ("--set", "window=13")),
+        ("lumpy", "corrected", ("--set", "correct=true")),
         ("steady", "kept", ()),
     ],
 )

@@ -247,7 +247,7 @@ def test_planned_folder(
         write(tmp_path, {name: items[name] for name in ("I-000", "I-001")}),
         tmp_path / "plan",
     )
-    words = f"--out {out} --seed other --jobs 1 --program {program}"
+    words = f"--out {out} --set seed=other --jobs 1 --program {program}"
     crnplan("plan", *tables, *words.split())
     plan = (out / "decisions.csv").read_bytes()
     assert crnplan("backtest", out, *WORDS, "--jobs", 1).status == 0
@@ -297,8 +297,9 @@ def test_line_on_the_page_of_the_plan(
     "given, said",
     [
         (["plan"], "no plan is in it"),
-        (["demand.csv", "items.csv"], "two tables and --out"),
-        (["plan", "--out", "other"], "leave them out"),
+        (["demand.csv", "items.csv"], "or tables and --out"),
+        (["plan", "--set", "fill=95%"], "leave them out"),
+        (["plan", "--out", "other"], "plan: No such file"),
     ],
 )
 def test_words_that_are_refused(crnplan: Command, given: list[str], said: str) -> None:

@@ -21,7 +21,7 @@ from planner.tests.plan.items import SHORT, several
 from crnplan.read.item import Item
 
 FILES = ("Bewegungen.csv", "Artikel.csv", "Bestellungen.csv")
-WORDS = [FILES[0], FILES[1], "--orders", FILES[2]]
+WORDS = [*FILES]
 REFUSED = tomllib.loads(Path(__file__).with_name("refused.toml").read_text("utf-8"))
 TABLES = ("decisions.csv", "details.csv", "rejects.csv", "summary.txt")
 # Laws as they were observed, and short runs: a third of the time.

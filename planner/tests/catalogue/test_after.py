@@ -85,8 +85,8 @@ def test_unchanged_items_are_not_planned(
         "plan",
         "demand.csv",
         "items.csv",
-        "--to",
-        words["end"],
+        "--set",
+        f"to={words['end']}",
         "--after",
         month.before,
         "--out",
@@ -320,12 +320,13 @@ def test_least_gain_that_may_be_either(crnplan: Command) -> None:
         "one",
         "--out",
         "two",
-        "--least-gain",
-        "2",
+        "--set",
+        "least_gain=2",
     )
     assert (
         answer.status == 2
-        and "--least-gain: '2' may be 2% or 2 as a share; write 2% or" in answer.errors
+        and "--set least_gain: '2' may be 2% or 2 as a share; write 2% or"
+        in answer.errors
     )
 
 

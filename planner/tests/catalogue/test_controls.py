@@ -190,7 +190,7 @@ def test_controls_are_said(
     monkeypatch.chdir(tmp_path)
     settings = '[catalogue]\nfit = "empirical"\nborrow = "none"\nperiods = 16\n'
     (tmp_path / "crnplan.toml").write_text(settings, "utf-8")
-    words = "--where Location=Main --out plan --currency EUR --program".split()
+    words = "--set where=Location=Main --out plan --set currency=EUR --program".split()
     answer = crnplan("plan", "demand-*.csv", "items.csv", *words, program)
     assert answer.status == 0, answer
     lines = [line.split() for line in answer.output.splitlines()]

@@ -35,7 +35,7 @@ COUNT, ITEMS, WEEKS, START = 45, 34, 26, datetime.date(2026, 1, 5)  # a Monday
 WANTED = {0: "0.95", 1: "0.95", 2: "0.9", 3: ""}
 SETTINGS: dict[str, Any] = {"fit": "empirical", "borrow": NONE, "jobs": 1, **SHORT}
 OWN = Settings(fit="empirical", borrow=NONE)
-WORDS = "--fit", "empirical", "--borrow", "none"
+WORDS = "--set", "fit=empirical", "--set", "borrow=none"
 FILES = "decisions.csv", "details.csv", "summary.txt", "report.html"
 
 
@@ -195,7 +195,7 @@ def test_learned_again_on_request(room: Path, crnplan: Command, program: Path) -
     with (room / "demand.csv").open("a") as file:
         file.write(f"I-00,{START},500\n")
     words = [*plan_again(room, "plan"), "--program", program, "--jobs", "1"]
-    words += ["--far", "keep"]
+    words += ["--set", "far=keep"]
     before = aims_in(room)
     told = crnplan(*words)
     assert " 1 items planned" in told.errors and aims_in(room) == before
@@ -293,5 +293,5 @@ def test_backtests_do_not_see_what_came(room: Path, crnplan: Command) -> None:
     assert told.output == plain.text
     crnplan("report", room / "plan")
     line = told.output.splitlines()[0]
-    said = f"{line} By the plan that aims as by --correct: "
+    said = f"{line} By the plan that aims as with the key correct: "
     assert said in Page(room / "plan/report.html").words

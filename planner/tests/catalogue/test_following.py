@@ -77,14 +77,14 @@ def test_command(room: Path, tmp_path: Path, crnplan: Command) -> None:
     tables = [room / "demand.csv", room / "items.csv"]
     config = tmp_path / "short.toml"
     config.write_text("[catalogue]\nperiods = 64\nreplications = 4\n")
-    words = "--every", "week", "--borrow", "none", "--config", config
+    words = "--every", "week", "--set", "borrow=none", "--config", config
     folder = tmp_path / "plan"
-    follow = "--follow", "auto", "--jobs", 2
+    follow = "--set", "follow=auto", "--jobs", 2
     assert crnplan("plan", *tables, "--out", folder, *words, *follow).status == 0
     for name in FILES:
         assert (folder / name).read_bytes() == (room / "plan" / name).read_bytes()
     assert 'follow = "auto"' in (folder / "found.toml").read_text()
-    ran = crnplan("plan", *tables, "--out", folder, *words, "--follow", "x")
+    ran = crnplan("plan", *tables, "--out", folder, *words, "--set", "follow=x")
     assert ran.status == 2
 
 

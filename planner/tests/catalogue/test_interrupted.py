@@ -303,7 +303,7 @@ def test_killed_after_an_earlier_plan(
     heading, first, *rows = path.read_text("utf-8").splitlines()
     others = [re.sub("^(.*?;.*?);.*?;", r"\1;33,50;", row) for row in rows]
     path.write_text("\r\n".join([heading, first, *others, ""]), "utf-8")
-    command = ["plan", *WORDS, "--after", "earlier", "--least-gain", "5%", "--out"]
+    command = ["plan", *WORDS, "--after", "earlier", "--set", "least_gain=5%", "--out"]
     process = start(JOBS, [*command, "plan"])
     wait_until(lambda: runs(folder) > PASSES)
     kill(process)
@@ -346,7 +346,11 @@ def test_interrupted_once_items_have_learned(
     """A plan whose items learn from one another has the same bytes in all files if it was interrupted after that, and
     the terminal alone says what was kept."""
     teaching(planted, [name_of(number) for number in range(34, 34 + FEW)]).write(folder)
-    words = "plan", *WORDS, *"--fit auto --borrow all --jobs 1 --program".split()
+    words = (
+        "plan",
+        *WORDS,
+        *"--set fit=auto --set borrow=all --jobs 1 --program".split(),
+    )
     assert crnplan(*words, program, "--out", "whole").status == 0
     calls, plan_asked = itertools.count(), catalogue.plan_asked
 

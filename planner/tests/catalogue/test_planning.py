@@ -301,7 +301,7 @@ def test_only_what_changed_is_planned(begun: Path, plan: Plan, planned: Path) ->
     assert planned_now(plan()) == 1
     leave_few(begun, 3)
     assert planned_now(plan()) == 0
-    assert planned_now(plan("--seed", "other")) == 3
+    assert planned_now(plan("--set", "seed=other")) == 3
 
 
 def test_orders_of_a_day_load_no_compiler(planned: Path, tmp_path: Path) -> None:
@@ -317,7 +317,7 @@ def test_the_command_says_what_it_found(folder: Path, plan: Plan) -> None:
     (folder / "crnplan.toml").write_text(told.errors, "utf-8")
     again = plan("--check")
     assert again.output == told.output and "found by its name" not in again.errors
-    told = plan("--check", "--column", "demand.quantity=Beleg")
+    told = plan("--check", "--set", "demand.quantity=Beleg")
     assert told.status == 1 and " rows = 0 used + " in told.output
 
 
@@ -357,7 +357,7 @@ def test_confidence_and_its_price(begun: Path, plan: Plan) -> None:
     leave_few(begun, 6)
     assert planned_now(plan()) == 0
     before, price = decisions(begun), 0.0
-    told = plan("--confidence", "0.8")
+    told = plan("--set", "confidence=0.8")
     after = decisions(begun)
     assert planned_now(told) == len(after) == 6
     for name, row in after.items():

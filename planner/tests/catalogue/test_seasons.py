@@ -115,23 +115,23 @@ def test_what_is_said(room: Path) -> None:
 
 
 def test_command(room: Path, tmp_path: Path, crnplan: Command) -> None:
-    """The command plans as Python does; `--season none` plans as if there were none, and a plan after it says so."""
+    """The command plans as Python does; `season=none` plans as if there were none, and a plan after it says so."""
     tables = [room / "demand.csv", room / "items.csv"]
     config = tmp_path / "short.toml"
     config.write_text("[catalogue]\nperiods = 64\nreplications = 4\n")
-    words = *("--every", "week", "--to", END, "--jobs", 1), "--config", config
+    words = *("--every", "week", "--set", f"to={END}", "--jobs", 1), "--config", config
     folder = tmp_path / "plan"
     assert crnplan("plan", *tables, "--out", folder, *words).status == 0
     for name in FILES:
         assert (folder / name).read_bytes() == (room / "plan" / name).read_bytes()
-    none = "--season", "none", "--out", tmp_path / "none"
+    none = "--set", "season=none", "--out", tmp_path / "none"
     ran = crnplan("plan", *tables, *none, *words, "--after", folder)
     assert ran.status == 0
     assert not (tmp_path / "none/levels.csv").exists()
     assert 'season = "none"' in (tmp_path / "none/found.toml").read_text()
     reasons = pd.read_csv(tmp_path / "none/changes.csv").to_string()
     assert "season" in reasons
-    assert crnplan("plan", *tables, "--season", "x", *none[2:]).status == 2
+    assert crnplan("plan", *tables, "--set", "season=x", *none[2:]).status == 2
 
 
 def test_what_is_kept(room: Path, tmp_path: Path, program: Path) -> None:

@@ -205,9 +205,7 @@ def test_backtests_plan_item_by_item(program: Path, tmp_path: Path) -> None:
     with planned_folder(plan.path) as folder:
         line = past_line(past_of_folder(folder))
     met = tests.sums.fill_together[0]
-    said = (
-        f" By the plan by one price for what is not met, as by --together: {met:.1%}."
-    )
+    said = f" By the plan by one price for what is not met, as with the key together: {met:.1%}."
     assert line == tests.text.splitlines()[0] + said
 
 

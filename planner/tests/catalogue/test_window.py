@@ -82,10 +82,10 @@ def test_another_window_learns_anew(
     Path("crnplan.toml").write_text(
         "[catalogue]\nperiods = 64\nreplications = 4\n", "utf-8"
     )
-    words = "plan", *tables, "--borrow", "all", "--jobs", 1, "--program", program
+    words = "plan", *tables, "--set", "borrow=all", "--jobs", 1, "--program", program
     assert crnplan(*words, "--out", "plan").status == 0
     told = [
-        crnplan(*words, "--window", WINDOW, "--out", name)
+        crnplan(*words, "--set", f"window={WINDOW}", "--out", name)
         for name in ("plan", "new", "plan")
     ]
     assert ["learned in an earlier run" in its.errors for its in told] == [
@@ -124,11 +124,13 @@ def test_by_command_and_by_settings(
 ) -> None:
     """The option and the key of crnplan.toml give the same bytes, and the backtest of the folder has its window."""
     monkeypatch.chdir(tmp_path)
-    words = *few, "--jobs", 1, "--program", program, "--borrow", "none"
+    words = *few, "--jobs", 1, "--program", program, "--set", "borrow=none"
     (tmp_path / "crnplan.toml").write_text(
         "[catalogue]\nperiods = 64\nreplications = 4\n", "utf-8"
     )
-    assert crnplan("plan", *words, "--window", WINDOW, "--out", "one").status == 0
+    assert (
+        crnplan("plan", *words, "--set", f"window={WINDOW}", "--out", "one").status == 0
+    )
     with (tmp_path / "crnplan.toml").open("a", encoding="utf-8") as file:
         file.write(f"window = {WINDOW}\n")
     assert crnplan("plan", *words, "--out", "two").status == 0

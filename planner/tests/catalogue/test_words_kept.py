@@ -35,7 +35,7 @@ SETTINGS: dict[str, Any] = {
     "fit": "empirical",
     "borrow": "none",
 }
-FILES = "demand.csv", "items.csv", "--orders", "orders.csv", "--anyway"
+FILES = "demand.csv", "items.csv", "orders.csv", "--anyway"
 # What names inputs and outputs, or how the work is done: it is no word of reading or planning.
 OTHERS = {
     *("demand", "items", "orders", "out_of_stock", "overrides", "after", "config"),
@@ -235,8 +235,8 @@ def test_today_reads_as_the_plan_did(
         return stock_in(orders, pd.read_csv("today/today_lists.csv"))
 
     assert stock_by() == {"A": 6.0, "C": 12.0}
-    other = "--column stock.stock=other --unit stock.stock=item"
-    known = "--where", "stock.Bestand (VE)=*"
+    other = "--set stock.stock=other --set units.stock.stock=item"
+    known = "--set", "where=stock.Bestand (VE)=*"
     assert stock_by(*other.split(), *known) == {"A": 4.0, "C": 2.0}
     orders = crn.open_plan(room / "plan").orders_today("stock.csv", date="2026-11-02")
     assert stock_in(orders.frame, orders.lists) == {"A": 6, "C": 12}

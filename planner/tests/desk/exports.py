@@ -121,7 +121,7 @@ def of_sap(folder: Path, parts: Sequence[Part]) -> Export:
         ]
         for it in parts
     ]
-    words = "--encoding cp1252 --decimal , --net --fill 0.97".split()
+    words = "--set encoding=cp1252 --set decimal=, --set net=true --fill 0.97".split()
     return Export(
         written(folder / "MB51.csv", "cp1252", ";", demand),
         written(folder / "Material.csv", "cp1252", ";", masters),
@@ -161,7 +161,7 @@ def of_shop(folder: Path, parts: Sequence[Part]) -> Export:
     return Export(
         written(folder / "sales.csv", "utf-8-sig", ",", demand),
         written(folder / "items.csv", "utf-8-sig", ",", masters),
-        "--fill 0.95 --currency USD".split(),
+        "--fill 0.95 --set currency=USD".split(),
         "USD",
     )
 
@@ -195,7 +195,7 @@ def of_plant(folder: Path, parts: Sequence[Part]) -> Export:
     return Export(
         written(folder / "出库.csv", "gb18030", ",", demand),
         written(folder / "物料.csv", "gb18030", ",", masters),
-        "--encoding gb18030 --fill 95% --currency CNY".split(),
+        "--set encoding=gb18030 --fill 95% --set currency=CNY".split(),
         "CNY",
     )
 

@@ -168,7 +168,7 @@ def wide(folder: Path) -> Export:
     return Export(
         sheet_of(folder / "ventes.xlsx", sales_by_week(), {0: "0000"}),
         sheet_of(folder / "articles.xlsx", masters, {0: "0000", 3: '#,##0.00 "€"'}),
-        "--setup 45 --holding-rate 20% --fill 95%".split(),
+        "--set setup=45 --set holding_rate=20% --fill 95%".split(),
         ["--on-order", str(orders)],
         "EUR",
     )
@@ -227,7 +227,7 @@ def japanese(folder: Path) -> Export:
     return Export(
         written(folder / "出荷.csv", "cp932", japanese_sales()),
         written(folder / "商品.csv", "cp932", masters),
-        "--encoding cp932 --currency JPY --setup 3000 --holding-rate 20% --fill 95% --net --decimal .".split(),
+        "--set encoding=cp932 --set currency=JPY --set setup=3000 --set holding_rate=20% --fill 95% --set net=true --set decimal=.".split(),
         ["--on-order", str(orders)],
         "JPY",
     )
@@ -315,7 +315,7 @@ def warehouses(folder: Path) -> Export:
     return Export(
         written(folder / "sales.csv", "utf-8", sales_of_warehouses()),
         written(folder / "items.csv", "utf-8", masters),
-        "--where Warehouse=Main --where Type=Sale --currency USD --setup 45 --holding-rate 20% --fill 95%".split(),
+        "--set where=Warehouse=Main --set where=Type=Sale --set currency=USD --set setup=45 --set holding_rate=20% --fill 95%".split(),
         today_of_warehouses(folder),
         "USD",
     )

@@ -62,7 +62,11 @@ def test_from_two_files_to_orders_and_a_workbook(
 ) -> None:
     """What is sold, stocked and ordered adds up to the cent, whatever the system writes."""
     export, plan = SYSTEMS[system](tmp_path, PARTS), tmp_path / "plan"
-    words = [*export.words, *"--setup 45 --holding-rate 20% --program".split(), program]
+    words = [
+        *export.words,
+        *"--set setup=45 --set holding_rate=20% --program".split(),
+        program,
+    ]
     planned = crnplan("plan", export.demand, export.masters, *words, "--out", plan)
     assert planned.status == 0 and f"saved: {export.currency} " in planned.output
     with planned_folder(plan) as folder:

@@ -388,7 +388,7 @@ def test_bounds_of_a_catalogue(crnplan: Command, tmp_path: Path, program: Path) 
             day = monday + datetime.timedelta(weeks=week)
             file.write(f"A,{day},{count}\nB,{day},{count}\n")
     words = f"""plan {tmp_path}/demand.csv {tmp_path}/items.csv --out {tmp_path}/plan --config {tmp_path}/mine.toml
-        --order-min 3 --s-min 2 --jobs 1 --program {program}"""
+        --set order_min=3 --set s_min=2 --jobs 1 --program {program}"""
     answer = crnplan(*words.split())
     decisions = whole_rows(tmp_path / "plan")
     with planned_folder(tmp_path / "plan") as plan:

@@ -225,7 +225,7 @@ def test_overrides_by_the_command(
         tmp_path / "set.csv", index=False
     )
     files = tmp_path / "demand.csv", tmp_path / "items.csv"
-    words = f"--overrides {tmp_path}/set.csv --out {tmp_path}/plan --jobs 1 --to {END} --program {program}"
+    words = f"overrides={tmp_path}/set.csv --out {tmp_path}/plan --jobs 1 --set to={END} --program {program}"
     assert crnplan("plan", *files, *words.split()).status == 0
     row = whole_rows(tmp_path / "plan")["A"]
     assert (row["s_override"], row["S_override"]) == ("5", "17")

@@ -204,7 +204,7 @@ def test_catalogues_with_stated_laws(
         program=program,
     )
     files = *(tmp_path / f"{name}.csv" for name in ("demand", "masters")), "--jobs", 1
-    asked = "plan", *files, "--borrow", "none", "--laws", tmp_path / "laws.csv"
+    asked = "plan", *files, "--set", "borrow=none", tmp_path / "laws.csv"
     status, _, errors = crnplan(*asked, "--out", tmp_path / "two")
     assert status == 0 and "6 items planned, 0 kept" in errors
     for name in ("decisions.csv", "details.csv", "rejects.csv"):

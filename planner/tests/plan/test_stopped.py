@@ -319,8 +319,9 @@ def test_status_by_the_command(tmp_path: Path, crnplan: Command) -> None:
         table.to_csv(tmp_path / f"{name}.csv", index=False)
     files = tmp_path / "demand.csv", tmp_path / "items.csv"
     check = ["plan", *map(str, files), "--check"]
-    words = "--status", "Z3=stopped", "--status", "ZZ=phase out", "--stopped"
-    assert "items left out" not in crnplan(*check, *words, "as-stated").output
-    assert "say what it means by --status ZZ=stopped" in crnplan(*check).output
-    said = "--status: Z3: 'dead' is not one of active, phase out, stopped"
-    assert crnplan(*check, "--status", "Z3=dead").refuses(said)
+    said = "statuses.Z3=stopped", "statuses.ZZ=phase out", "stopped=as-stated"
+    words = [word for text in said for word in ("--set", text)]
+    assert "items left out" not in crnplan(*check, *words).output
+    assert "say what it means by --set statuses.ZZ=stopped" in crnplan(*check).output
+    why = "--set statuses: Z3: 'dead' is not one of active, phase out, stopped"
+    assert crnplan(*check, "--set", "statuses.Z3=dead").refuses(why)

@@ -82,7 +82,7 @@ def test_rejects_in_a_call_and_in_a_command(
         tmp_path / "out.csv",
     )
     assert [*pd.read_csv(tmp_path / "out.csv").advice] == [
-        "correct it, or say --net to take it off the sale that it undoes, or --negate if what is issued is below 0"
+        "correct it, or say --set net=true to take it off the sale that it undoes, or --set negate=true if what is issued is below 0"
     ]
 
 

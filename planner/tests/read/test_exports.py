@@ -29,7 +29,7 @@ from planner.tests.read.catalogues import (
 )
 
 CASES = cases_of("exports")
-MONTHS = "--every month --least 2 --unit items.lead=month --unit items.holding=month --unit items.backlog=month"
+MONTHS = "--every month --set least=2 --set units.items.lead=month --set units.items.holding=month --set units.items.backlog=month"
 PRICED = "item,setup,holding,backlog,price,lead (weeks),s,S"
 ALL_USED = f"{WEEKS} rows = {WEEKS} used"
 
@@ -88,16 +88,17 @@ def check(crnplan: Command, tmp_path: Path, monkeypatch: pytest.MonkeyPatch) -> 
     def run(
         demand: str | Path = PLAIN, words: str = "", masters: str = MASTERS
     ) -> Read:
-        path = tmp_path / "demand.csv" if isinstance(demand, str) else demand
+        table = f"demand={demand}"
         if isinstance(demand, str):
-            path.write_bytes(demand.encode())
+            table = str(tmp_path / "demand.csv")
+            Path(table).write_bytes(demand.encode())
         (tmp_path / "items.csv").write_bytes(masters.encode())
-        table = tmp_path / "rejects.csv"
-        table.unlink(missing_ok=True)
-        words = f"--check --rejects {table} {words}"
+        rejects = tmp_path / "rejects.csv"
+        rejects.unlink(missing_ok=True)
+        words = f"--check --rejects {rejects} {words}"
         heard.update(items={}, currency="")
-        answer = crnplan("plan", path, tmp_path / "items.csv", *words.split())
-        return Read(answer, rows_of(table) if table.is_file() else [], **heard)
+        answer = crnplan("plan", table, tmp_path / "items.csv", *words.split())
+        return Read(answer, rows_of(rejects) if rejects.is_file() else [], **heard)
 
     monkeypatch.setattr(catalogues, "read_into", listen)
     return run
@@ -122,14 +123,14 @@ def test_quantities_as_people_write_them(
     text: str, quantity: int, check: Check
 ) -> None:
     """Amounts below 0 may stand in parentheses or have the minus behind; thousands may have an apostrophe."""
-    item = check(demand_of([text, "7000"]), f"--net {MONTHS}").item
+    item = check(demand_of([text, "7000"]), f"--set net=true {MONTHS}").item
     assert sum(item.counts) == WEEKS // 2 * (7000 + quantity)
 
 
 @pytest.mark.parametrize("sign, name, value", [(".", "point", 1000), (",", "comma", 1)])
 def test_stated_sign_decides(sign: str, name: str, value: int, check: Check) -> None:
-    """--decimal decides what 1,000 is, which is said."""
-    read = check(demand_of(['"1,000"']), f"--decimal {sign}")
+    """The key decimal decides what 1,000 is, which is said."""
+    read = check(demand_of(['"1,000"']), f"--set decimal={sign}")
     assert sum(read.item.counts) == WEEKS * value
     assert f"# the decimal sign is the {name}, as stated\n" in read.answer.errors
 
@@ -179,15 +180,15 @@ def test_units_that_cannot_be_converted(
 
 
 def test_stated_units(check: Check, tmp_path: Path) -> None:
-    """A stated unit is that of its column, whatever the period is, by --unit as by crnplan.toml, to which it adds."""
+    """A stated unit is that of its column, whatever the period is, by --set as by crnplan.toml, to which it adds."""
     masters, settings = f"{HEADING}\nA,45,12,10,9,3,9\n", tmp_path / "mine.toml"
-    words = "--every month --least 2 --unit items.lead=week --unit items.holding=year --unit items.backlog=month --unit demand.quantity=12"
+    words = "--every month --set least=2 --set units.items.lead=week --set units.items.holding=year --set units.items.backlog=month --set units.demand.quantity=12"
     item = check(demand_of(["2"]), words, masters).item
     # Nine weeks are 2.07 months: nearly always 2.
     assert item.leads[:6] in ((2,), (2,) * 6)
     assert (item.holding, item.backlog, sum(item.counts)) == (1, 10, 24 * WEEKS)
     settings.write_text(CASES["stated"]["config"], "utf-8")
-    words = f"--config {settings} --unit items.lead=week"
+    words = f"--config {settings} --set units.items.lead=week"
     assert check(demand_of(["2"]), words, masters).item == item
 
 
@@ -195,8 +196,8 @@ def test_rows_in_two_units_of_measure(check: Check) -> None:
     """An item whose rows are in two units of measure is left out, unless it is said how many items one is."""
     rows = demand_of(["2,ST", "3,KAR"], "item,date,quantity,ME")
     reason = check(rows).reason
-    assert "'ST' and 'KAR'" in reason and "--factor KAR=12" in reason
-    item = check(rows, "--factor KAR=12").item
+    assert "'ST' and 'KAR'" in reason and "--set factors.KAR=12" in reason
+    item = check(rows, "--set factors.KAR=12").item
     assert sum(item.counts) == 2 * 13 + 3 * 12 * 13
 
 
@@ -359,7 +360,7 @@ def test_two_exports_of_a_system_lead_to_a_plan(
     demand, masters = tmp_path / "mb51.csv", tmp_path / "marc.csv"
     demand.write_text("\n".join([*lines, ""]), "cp1252")
     masters.write_text(sap["masters"].lstrip(), "cp1252")
-    words = "--jobs 1 --negate --setup 45 --holding-rate 20% --fill 95%".split()
+    words = "--jobs 1 --set negate=true --set setup=45 --set holding_rate=20% --fill 95%".split()
     words += ["--out", str(out), "--program", str(program)]
     answer = crnplan("plan", demand, masters, *words)
     assert answer.status == 0 and "saved: EUR " in answer.output

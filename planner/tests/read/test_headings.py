@@ -143,9 +143,9 @@ def test_a_column_that_is_none(crnplan: Command, tmp_path: Path) -> None:
     masters_of({**MASTER, "stock group": "x"}).to_csv(masters, index=False)
     words = ["plan", demand, masters, "--check"]
     refused = crnplan(*words)
-    said = "say --column 'items.stock=stock group' if it is, or --column items.stock= if it is not"
+    said = "say --set 'items.stock=stock group' if it is, or --set items.stock= if it is not"
     assert refused.status == 2 and said in refused.errors.replace('"', "'")
-    taken = crnplan(*words, "--column", "items.stock=")
+    taken = crnplan(*words, "--set", "items.stock=")
     assert taken.status == 0
     read = crn.read_catalogue(demand, masters, columns={"items": {"stock": ""}})
     assert 'stock = ""  # no column, as stated\n' in read.found

@@ -161,10 +161,10 @@ def test_a_plan_by_receipts(
     for name, table in zip(("demand", "items", "orders"), made):
         table.to_csv(f"{name}.csv", index=False)
     Path("mine.toml").write_text('[catalogue]\nlead_from = "masters"\n', "utf-8")
-    files = "demand.csv", "items.csv", "--orders", "orders.csv", "--jobs", "1"
+    files = "demand.csv", "items.csv", "orders.csv", "--jobs", "1"
     levels = {}
     for source in ("orders", "masters", "both", "config"):
-        words = ["--lead-from", source]
+        words = ["--set", f"lead_from={source}"]
         if source == "config":
             words = ["--config", "mine.toml"]
         out = "--out", source, "--program", program

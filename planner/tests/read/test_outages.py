@@ -96,14 +96,14 @@ def test_classes_are_by_the_demand_that_is_known() -> None:
 
 
 def test_the_command_takes_the_table(crnplan: Command, tmp_path: Path) -> None:
-    """`crnplan plan --out-of-stock FILE` reads it, and says its columns and what is unknown."""
+    """`crnplan plan` finds the times without stock, and says its columns and what is unknown."""
     demand = f"item,date,quantity\n{weekly([3, 1, 4] * 8)}"
     (tmp_path / "demand.csv").write_text(demand)
     (tmp_path / "items.csv").write_text(MASTERS)
     (tmp_path / "out.csv").write_text("item;fehlt ab;bis\nA;03.03.2026;16.03.2026\n")
     status, output, errors = crnplan(
         *("plan", tmp_path / "demand.csv", tmp_path / "items.csv", "--check"),
-        *("--out-of-stock", tmp_path / "out.csv"),
+        tmp_path / "out.csv",
     )
     assert status == 0 and "[catalogue.out_of_stock]" in errors
     assert 'from = "fehlt ab"' in errors
@@ -138,8 +138,10 @@ def test_the_command_backtest_takes_the_table(crnplan: Command, tmp_path: Path) 
     (tmp_path / "out.csv").write_text("item,from,to\nA,2026-03-02,2026-03-22\n")
     walk = "--record", 20, "--every", 4, "--jobs", 1
     files = tmp_path / "demand.csv", tmp_path / "items.csv", "--out", tmp_path / "plan"
-    out = "--out-of-stock", tmp_path / "out.csv"
+    out = [tmp_path / "out.csv"]
     status, _, errors = crnplan("backtest", *files, *out, *walk)
     assert status == 0, errors
     assert "it has 23 periods" in (tmp_path / "plan/backtest.csv").read_text()
-    assert crnplan("backtest", tmp_path / "plan", *out).refuses("--out-of-stock")
+    assert crnplan("backtest", tmp_path / "plan", *out).refuses(
+        "name a folder of crnplan plan, or tables and --out"
+    )

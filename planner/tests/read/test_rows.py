@@ -82,7 +82,7 @@ def test_utf_16_without_its_mark(tmp_path: Path) -> None:
     """It is refused with the name of its encoding, by which it is read."""
     data = "item,date,n\nA,2026-03-02,5\n".encode("utf-16-le")
     words = {"date": "date", "quantity": "n"}
-    check(tmp_path, data, words, "as in UTF-16; say --encoding utf-16-le")
+    check(tmp_path, data, words, "as in UTF-16; say --set encoding=utf-16-le")
     check(tmp_path, data, {**words, "encoding": "utf-16-le"}, [5])
 
 
@@ -164,7 +164,7 @@ def test_a_large_file(tmp_path: Path, clock: str) -> None:
         path,
         tmp_path / "items.csv",
     ]
-    command += ["--check", "--anyway", "--jobs", "1", "--to", "2026-12-31"]
+    command += ["--check", "--anyway", "--jobs", "1", "--set", "to=2026-12-31"]
     used = list[list[float]]()
     # Other work on the machine lengthens processor time, so the least of some runs counts.
     while len(used) < MOST_RUNS and (not used or min(used)[0] > MOST_SECONDS):

@@ -348,7 +348,7 @@ def test_the_class_by_value_is_by_the_stated_mean() -> None:
 
 
 def test_the_command_takes_the_table(crnplan: Command, tmp_path: Path) -> None:
-    """`crnplan plan --laws FILE` reads it, and says its columns, and how many laws there are."""
+    """`crnplan plan` finds laws, and says its columns, and how many laws there are."""
     demand = f"item,date,quantity\n{weekly([3, 1, 4] * 8, 'B')}"
     (tmp_path / "demand.csv").write_text(demand)
     master = MASTERS.splitlines()[1].removeprefix("A")
@@ -356,7 +356,7 @@ def test_the_command_takes_the_table(crnplan: Command, tmp_path: Path) -> None:
     (tmp_path / "laws.csv").write_text("Artikel;Prognose;Varianz\nA;2,5;4,25\n")
     status, output, errors = crnplan(
         *("plan", tmp_path / "demand.csv", tmp_path / "items.csv", "--check"),
-        *("--laws", tmp_path / "laws.csv"),
+        tmp_path / "laws.csv",
     )
     assert status == 0 and 'mean = "Prognose"' in errors, errors
     assert "for 1 items, 1 of them without a history" in errors

@@ -55,7 +55,7 @@ def files(tmp_path: Path) -> dict[str, Any]:
     masters_of(BARE, BARE).to_csv(tmp_path / "items.csv", index=False)
     orders_of({"A": [13, 14, 16]}).to_csv(tmp_path / "orders.csv", index=False)
     words = ["plan", tmp_path / "demand.csv", tmp_path / "items.csv", "--check"]
-    return {"words": words, "orders": ["--orders", tmp_path / "orders.csv"]}
+    return {"words": words, "orders": [tmp_path / "orders.csv"]}
 
 
 @pytest.mark.parametrize("every", ["day", "week", "month"])
@@ -101,14 +101,14 @@ def test_the_unit_of_receipts_by_the_command(
     words, orders = files.values()
     masters_of({**BARE, "lead": 14}, {**BARE, "lead": 28}).to_csv(words[2], index=False)
     receipts = {"A": [13, 14, 16], "B": [27, 28, 30]}
-    orders_of(receipts).to_csv(orders[1], index=False)
+    orders_of(receipts).to_csv(orders[0], index=False)
     said = crnplan(*words, *orders)
     by = "# items.csv: column 'lead': lead: its numbers are days, by the receipts of 2 of 2 items\n"
     assert said.status == 0 and by in said.errors
-    stated = crnplan(*words, *orders, "--unit", "items.lead=day")
+    stated = crnplan(*words, *orders, "--set", "units.items.lead=day")
     assert "by the receipts" not in stated.errors
     refused = crnplan(*words)
-    advice = "say --unit items.lead=day or --unit items.lead=week"
+    advice = "say --set units.items.lead=day or --set units.items.lead=week"
     assert refused.status == 2 and advice in refused.errors
 
 
@@ -135,12 +135,12 @@ def test_a_lead_time_for_items_without_one(
 def test_a_default_by_word_and_by_key(
     crnplan: Command, files: dict[str, Any], tmp_path: Path
 ) -> None:
-    """--lead and the key lead say the same. A command says that lead times are those of receipts if no column has them."""
+    """--set lead and the key of crnplan.toml say the same. A command says that lead times are those of receipts if no column has them."""
     words, orders = files.values()
     left = crnplan(*words)
     assert left.status == 1 and "receipts" not in left.errors
-    assert "or say --lead '14 days' for all items" in left.output
-    stated = crnplan(*words, "--lead", "14 days")
+    assert "or say --set 'lead=14 days' for all items" in left.output
+    stated = crnplan(*words, "--set", "lead=14 days")
     assert stated.status == 0 and "2 items by the default\n" in stated.errors
     settings, config = tmp_path / "mine.toml", ["--config", tmp_path / "mine.toml"]
     settings.write_text('[catalogue]\nlead = "14 days"\n', "utf-8")

@@ -74,7 +74,7 @@ def test_files_that_are_there_twice(tmp_path: Path, sizes: Sizes) -> None:
 
     assert counts() == (rows, 0)
     copy(files["feb"].sample(frac=1, random_state=1))
-    said = "copy of feb.csv: all of its 28 rows are in feb.csv too; leave one out of the pattern, or say twice=keep or twice=leave-out"
+    said = "copy of feb.csv: all of its 28 rows are in feb.csv too; leave one out, or say twice=keep or twice=leave-out"
     with pytest.raises(crn.Refused, match=said):
         counts()
     assert counts(twice="keep") == (rows + 28, 0)

@@ -71,19 +71,27 @@ def known_words() -> Mapping[str, Word]:
 @dataclass
 class Spelling:
     """Spells arguments of the library as the options that have their names: of the subcommand that runs, else of
-    `crnplan plan`, since pages and tables tell what that has read.
+    `crnplan plan`, since pages and tables tell what that has read; else as keys for --set.
     """
 
     command: str = ""
 
     def __call__(self, name: str, value: str) -> str:
         """Returns an argument as an option, perhaps with a value."""
-        flag = f"--{name.replace('_', '-')}"
-        for command in filter(None, ("plan", self.command)):
+        words = [value] if value else []
+        for command in filter(None, (self.command, "plan")):
             for option in options_of(command):
                 if option.name == name and not getattr(option, "positional", False):
-                    flag = option.flag
-        return f"{flag} {shlex.quote(value)}" if value else flag
+                    return shlex.join([option.flag, *words])
+        from ..read.file_kinds import NONE, OF_PLANS
+        from .keys import entry_text
+
+        if name in (*OF_PLANS, NONE):
+            return shlex.quote(f"{name}={value or 'FILE'}")
+        word = known_words().get(name)
+        if word and word.key:
+            return shlex.join(["--set", *filter(None, [entry_text(word, value)])])
+        return shlex.join([f"--{name.replace('_', '-')}", *words])
 
 
 class CommandGroup(click.Group):
@@ -194,10 +202,29 @@ def main() -> None:
 def _with_help(refusal: click.ClickException) -> str:
     """Returns what is wrong with the words of a command, and where its help is."""
     message, context = refusal.format_message(), getattr(refusal, "ctx", None)
+    if isinstance(refusal, click.NoSuchOption):
+        name = context.info_name if context else ""
+        message = retired_option(name, refusal.option_name) or message
     if context:
         end = "" if message.endswith(("?", ".")) else "."
         message += f"{end} {context.command_path} --help shows the words."
     return message
+
+
+def retired_option(command: str, flag: str) -> str:
+    """Returns what replaces an option that a command has no longer; nothing if it had none."""
+    from ..read.file_kinds import OF_PLANS
+    from .keys import entry_text
+
+    options = COMMANDS.get(command, {}).get("options", ())
+    kind = flag.strip("-").replace("-", "_")
+    keys = {word.flag: word for word in known_words().values() if word.key}
+    if "tables" in options and kind in OF_PLANS:
+        return f"{flag} is no option any more: name the file, or say {kind}=FILE"
+    if "stated" not in options or flag not in keys:
+        return ""
+    entry = entry_text(keys[flag], keys[flag].kind.metavar)
+    return f"{flag} is no option any more: say it in crnplan.toml, or --set {entry}"
 
 
 def open_streams() -> None:

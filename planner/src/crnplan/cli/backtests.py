@@ -14,42 +14,40 @@ from ..plan.backtest.methods import Walk
 from ..plan.catalogue import planned_folder
 from ..plan.settings import read_config
 from ..read.catalogue_reading import CATALOGUE, read_into
-from ..read.spans import OUT
-from .catalogues import words_of
+from ..read.file_kinds import TESTED
+from .catalogues import files_said
+from .keys import words_of
 from .words import command
 
 
 @command()
 def backtest(
-    tables: Sequence[Path],
-    orders: str | None,
-    out_of_stock: str | None,
+    tables: Sequence[str],
     out: Path | None,
     record: int,
     every: int,
     window: int | None,
     least_gain: float | None,
+    stated: Sequence[str],
     config: str | None,
     jobs: int | None,
     cluster: str | None,
 ) -> None:
-    words = None
-    if len(tables) == 1:
-        if out or orders or out_of_stock or config:
-            raise Refused(
-                "a planned folder has its own --out, --orders, --out-of-stock and --config: leave them out"
-            )
-        with planned_folder(tables[0]) as planned:
-            settings = planned.settings
-    elif len(tables) == 2 and out:
-        words, settings = words_of({}, read_config(config))
+    files = None
+    if out:
+        words, settings = words_of({"stated": stated}, read_config(config))
+        files = files_said(tables, words, TESTED)
+    elif len(tables) != 1:
+        raise Refused("name a folder of crnplan plan, or tables and --out")
+    elif stated or config:
+        raise Refused("a planned folder has its own --set and --config: leave them out")
     else:
-        raise Refused("name a folder of crnplan catalogue, or two tables and --out")
+        with planned_folder(Path(tables[0])) as planned:
+            settings = planned.settings
     walk = Walk.of(settings, record, every, window, least_gain)
-    with own_folder(out or tables[0], CATALOGUE) as folder:
-        if words is not None:
-            files = {"demand": tables[0], "items": tables[1], "orders": orders}
-            read_into(folder, {**files, OUT: out_of_stock}, words, jobs)
+    with own_folder(out or Path(tables[0]), CATALOGUE) as folder:
+        if files is not None:
+            read_into(folder, files, words, jobs)
         means = Means(jobs, cluster, shown=True)
         tests = write_backtest(folder, settings, walk, means)
     click.echo(tests.text, nl=False)

@@ -2,8 +2,7 @@
 from __future__ import annotations
 
 import tempfile
-from collections.abc import Iterable, Iterator, Mapping
-from dataclasses import replace
+from collections.abc import Iterable, Iterator, Mapping, Sequence
 from pathlib import Path
 from typing import Any
 
@@ -27,12 +26,12 @@ from ..plan.catalogue import check_earlier
 from ..plan.how import Settings
 from ..plan.settings import CONFIG, read_config
 from ..read.catalogue_reading import CATALOGUE, read_into
+from ..read.file_kinds import NEEDED, OF_PLANS, PLANNED, files_by_kind
 from ..read.items import Reading
-from ..read.law_forms import LAWS
-from ..read.spans import OUT
-from ..read.overriding import set_overrides
-from ..read.configuration import made_from, merged, stated
-from . import known_words, note
+from ..read.opening import Table
+from ..read.overriding import OVERRIDES, set_overrides
+from . import note
+from .keys import words_of
 from .words import command
 
 # So many reasons are named on the terminal.
@@ -45,16 +44,14 @@ KINDS = {
 
 
 @command()
-def plan(**asked: Any) -> int:
+def plan(tables: Sequence[str], **asked: Any) -> int:
     config = read_config(asked["config"])
+    if asked["after"] is None:
+        config.pop("least_gain", None)  # It is that of plans after an earlier one.
     path = Path(asked["config"] or CONFIG)
     if path.is_file():
         click.echo(f"# settings are from {path}", err=True)
     words, settings = words_of(asked, config)
-    if asked["after"] is None and asked["least_gain"] is None:
-        settings = replace(
-            settings, least_gain=None
-        )  # It is that of plans after an earlier one.
     if not asked["only_read"] and asked["out"] is None:
         raise crn.Refused(
             "--out is missing; name the folder for the plan, or say --check to only read the files"
@@ -62,11 +59,11 @@ def plan(**asked: Any) -> int:
     check_earlier(asked["after"], asked["out"], settings)
     if asked["as_backtest"] is not None:
         check_test(asked["as_backtest"], asked["out"])
-    is_guessed = not asked["columns"] and not {"demand", "items"} & config.keys()
+    files = files_said(tables, words)
     with tempfile.TemporaryDirectory(prefix="crnplan-") as room:
         out = Path(room) if asked["only_read"] else asked["out"]
         with own_folder(out, CATALOGUE, CATALOGUE_FILES) as folder:
-            read, settings = read_files(folder, words, settings, asked, is_guessed)
+            read, settings = read_files(folder, files, words, settings, asked)
             if asked["only_read"]:
                 missing = only_read(read, asked["rejects"])
             else:
@@ -80,21 +77,31 @@ def plan(**asked: Any) -> int:
     return Lost.status if missing else status
 
 
+def files_said(
+    names: Sequence[str], words: Reading, kinds: Sequence[str] = OF_PLANS
+) -> dict[str, Table | None]:
+    """Returns the files of a command by kind, and says what each is. Raises RefusedFaults for those that can't be told."""
+    tables, said = files_by_kind(names, words, kinds)
+    for fault in said:
+        click.echo(f"# {fault}", err=True)
+    return tables
+
+
 def read_files(
     folder: Folder,
+    files: Mapping[str, Table | None],
     words: Reading,
     settings: Settings,
     asked: Mapping[str, Any],
-    is_guessed: bool,
 ) -> tuple[Catalogue, Settings]:
     """Reads the files of a catalogue into a folder, and says what is to be said of them: also what was found in them, if
     their columns are guessed. Returns it with the settings by which it is planned."""
-    tables = {kind: asked[kind] for kind in ("demand", "items", "orders", OUT, LAWS)}
+    tables = {kind: files[kind] for kind in PLANNED}
     read = Catalogue(read_into(folder, tables, words, asked["jobs"]))
-    set_overrides(folder, asked["overrides"], words, asked["after"])
+    set_overrides(folder, files[OVERRIDES], words, asked["after"])
     settings, said = settings_of(folder, settings, asked["as_backtest"])
     found = write_found(folder, read, settings)
-    if is_guessed:
+    if words.columns.keys().isdisjoint(NEEDED):
         click.echo(found, err=True)
     for line in (*read.said, *said):
         click.echo(f"# {line}", err=True)
@@ -148,19 +155,6 @@ def status_of(reasons: Iterable[str]) -> int:
         note(f"{line}; correct the files, or say --anyway")
         status = 1
     return status
-
-
-def words_of(
-    asked: Mapping[str, Any], config: Mapping[str, Any]
-) -> tuple[Reading, Settings]:
-    """Returns how files are read and how items are planned: by the command's words, else by the configuration."""
-    said: dict[str, Any] = {}
-    for name, word in known_words().items():
-        value = asked.get(name)
-        if value not in (None, ()):
-            said |= stated(name, word.key, word.meant(value))
-    tree = merged(config, said)
-    return made_from(Reading, tree), made_from(Settings, tree)
 
 
 def reason_lines(catalogue: Catalogue) -> Iterator[str]:

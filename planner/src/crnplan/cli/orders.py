@@ -13,7 +13,8 @@ from ..show.catalogue_tables import hardly_read
 from ..show.today_tables import TODAY, OrdersToday, has_stock, orders_today
 from ..plan.settings import read_config
 from ..read.stock import KINDS
-from .catalogues import status_of, words_of
+from .catalogues import status_of
+from .keys import words_of
 from .words import command
 
 

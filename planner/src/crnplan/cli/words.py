@@ -15,7 +15,7 @@ import crnplan as crn
 from ..options import Option
 from ..read.judging import KINDS
 from ..table import Result
-from ..vocabulary import FLAG, PAIRS, TEXTS, Word
+from ..vocabulary import PAIRS, TEXTS, Word
 from . import COMMANDS, options_of
 
 PICTURE = ".svg"
@@ -62,9 +62,7 @@ def type_of(option: Option) -> Any:
 def word_parameter(word: Word) -> Callable[[Callable[..., Any]], Callable[..., Any]]:
     """Returns a decorator that adds a word of reading or planning to a command, as texts that the word reads."""
     facts: dict[str, Any] = {"metavar": word.kind.metavar, "help": word.help}
-    if word.kind.shape == FLAG:
-        facts = {"is_flag": True, "default": None, "help": word.help}
-    elif word.kind.shape in (TEXTS, PAIRS):
+    if word.kind.shape in (TEXTS, PAIRS):
         facts["multiple"] = True
         facts["help"] += " May be given several times."
     return click.option(word.flag, word.name, **facts)
@@ -88,7 +86,6 @@ def parameter_of(
         "help": option.help or None,
         "default": option.default,
         "show_default": option.shown or None,
-        "required": option.required,
     }
     match option.kind:
         case "flag":

@@ -17,22 +17,23 @@ from ..read.amounts import AMOUNTS
 from ..read.blocks import DATES
 from ..read.columns import COUNTED, ROLES
 from ..read.encodings import USUAL
+from ..read.file_kinds import PLANNED
 from ..read.looks import Look, likeliest, looks_as, words_with
 from ..read.items import Reading
-from ..read.stock import ON_ORDER
+from ..read.stock import EXPORTED, ON_ORDER
 from ..read.configuration import made_from
 from ..read.workbooks import sheets_of
 from ..show.catalogue_tables import REJECTS, reasons_of, rejects_of
 from ..show.control_tables import controls_of
 from ..show.lateness import lateness_of
 from .front import Front, front, page
-from .kept import PLANNED, TODAY, UNKNOWN, Desk, Dropped, State
+from .kept import UNKNOWN, Desk, Dropped, State
 from .plans import command_on
 from .today_files import today_files
 from .work import READING, REFUSED
 
 pages = Blueprint("files", __name__)
-KINDS = *PLANNED, *TODAY
+KINDS = *PLANNED, *EXPORTED
 PACKS = "6", "10", "12", "100", "1000"
 UNITS = {
     role: [*counted["units"], *PACKS * counted["may_be_packs"]]
@@ -172,7 +173,7 @@ def files() -> str:
     desk, tree = own.desk, own.desk.tree
     said, command = said_of(desk), ""
     try:
-        command = command_on(desk, "catalogue", check=True)
+        command = command_on(desk, "plan", check=True)
     except Refused as why:
         said = [str(why)]
     kinds = UNKNOWN, *KINDS

@@ -17,9 +17,10 @@ from ..plan.catalogue import PlannedFolder, planned_folder
 from ..planned import Plan
 from ..read.catalogue_reading import CATALOGUE
 from ..drawing.rendering import rendered
+from ..read.file_kinds import PLANNED
 from ..store.files import IN_KEPT, read_folder
 from ..toml.documents import shown
-from .kept import LOOK, PLANNED, Begun, Desk
+from .kept import LOOK, Begun, Desk
 from .language import ENGLISH, LANGUAGES, as_field, words_of
 from .safety import TOKEN, WHOLE_PAGE, Secret
 from .work import DONE, PLANNING, READING, DeskWork

@@ -23,6 +23,7 @@ from ..errors import Refused
 from ..plan.settings import CONFIG, read_config
 from ..read.catalogue_reading import READ
 from ..read.cells import plain_name
+from ..read.file_kinds import SUFFIXES
 from ..read.opening import copy_of
 from ..read.sources import DELIMITERS
 from ..store.files import IN_KEPT, Folder, new_bytes, put_in_place
@@ -33,14 +34,10 @@ STATE = f"{IN_KEPT}desk.json"
 FILES, PLANS, TESTS, LOOK = "files", "plans", "tests", "read"
 LAST_TEST = f"{TESTS}/last"
 UNKNOWN = "unknown"  # where files stand whose kind is not known
-# The kinds of files, in the order of the page: those that a plan reads, and those of today.
-PLANNED = "demand", "items", "orders", "out_of_stock", "laws"
-TODAY = "stock", "on_order"
 OVERRIDES, PLACED, QUANTITIES = "overrides.csv", "placed.csv", "quantities.csv"
 OF_MASTERS = "stock.csv"  # the stock of masters
 MOST_FILE = 2_000_000_000  # bytes of a file, unpacked
 MOST_NAME = 60  # letters of the name of a file in the desk
-SUFFIXES = ".csv", ".txt", ".tsv", ".gz", ".xlsx", ".xlsm"
 
 
 @dataclass(frozen=True)

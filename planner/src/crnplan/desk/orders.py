@@ -15,11 +15,11 @@ from werkzeug.wrappers import Response as Redirect
 from ..errors import CrnplanError, Refused
 from ..read.observed import stated_day
 from ..read.quantities import quantity_of
-from ..read.stock import ON_ORDER, STOCK
+from ..read.stock import EXPORTED, ON_ORDER, STOCK
 from ..show.today_tables import OrdersToday, rows_of
 from ..store.digests import digest_of
 from .front import PREPARED, Front, command_of, front, page, whole_of
-from .kept import PLACED, QUANTITIES, TODAY, UNKNOWN, Placed, now
+from .kept import PLACED, QUANTITIES, UNKNOWN, Placed, now
 from .today_files import DAY, TodayFiles, last_plan, today_files
 
 pages = Blueprint("orders", __name__)
@@ -147,7 +147,7 @@ def today(refused: str = "", typed: Mapping[str, str] = NOTHING) -> str:
         "refused": refused,
         "typed": typed,
         "day": day,
-        "files": {kind: desk.files_of(kind) for kind in (*TODAY, UNKNOWN)},
+        "files": {kind: desk.files_of(kind) for kind in (*EXPORTED, UNKNOWN)},
         "masters": desk.files_of("items"),
         "letters": DAY,
     }

@@ -4,14 +4,14 @@ from __future__ import annotations
 from flask import Blueprint, Response, redirect
 from werkzeug.wrappers import Response as Redirect
 
+from ..read.file_kinds import TESTED
 from ..show.backtest_tables import PAGE, SUMMARY
 from .front import front, page, whole_page
-from .kept import LAST_TEST, PLANNED, Begun
+from .kept import LAST_TEST, Begun
 from .plans import command_on
 from .work import TESTING
 
 pages = Blueprint("past", __name__)
-TESTED = [kind for kind in PLANNED if kind != "laws"]
 
 
 @pages.get("/past")

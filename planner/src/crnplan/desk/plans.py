@@ -9,9 +9,10 @@ from werkzeug.wrappers import Response as Redirect
 
 from ..errors import Refused
 from ..plan.catalogue import planned_folder
+from ..read.file_kinds import NEEDED, PLANNED
 from ..show.change_tables import change_lines
 from .front import PAGES, command_of, front, page, words
-from .kept import LAST_TEST, OVERRIDES, PLANNED, PLANS, Begun, Desk
+from .kept import LAST_TEST, OVERRIDES, PLANS, Begun, Desk
 from .work import PLANNING, STOPPED, DeskWork
 
 pages = Blueprint("plans", __name__)
@@ -39,19 +40,20 @@ def changes_of(desk: Desk) -> list[dict[str, object]]:
 def command_on(
     desk: Desk, name: str, kinds: Sequence[str] = PLANNED, **options: object
 ) -> str:
-    """Returns a command on some kinds of the files of the desk."""
-    tables = desk.tables(kinds)
-    first = [tables.pop(kind, f"{kind}.csv") for kind in ("demand", "items")]
-    return command_of(name, *first, **tables, config=desk.config, **options)
+    """Returns a command on some kinds of the files of the desk, and on what its planner has set if plans are made."""
+    tables = {kind: f"{kind}.csv" for kind in NEEDED} | desk.tables(kinds)
+    overrides = desk.path / OVERRIDES
+    if kinds == PLANNED and overrides.is_file():
+        tables["overrides"] = str(overrides)
+    words = [f"{kind}={table}" for kind, table in tables.items()]
+    return command_of(name, *words, config=desk.config, **options)
 
 
 def asked_commands(desk: Desk, out: str, after: str) -> str:
     """Returns the commands that plan as the desk does, and compute what would change the answer."""
-    overrides = desk.path / OVERRIDES
     planning = command_on(
         desk,
         "plan",
-        overrides=overrides if overrides.is_file() else None,
         after=desk.path / after if after else None,
         out=desk.path / out,
     )

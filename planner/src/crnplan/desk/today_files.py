@@ -14,11 +14,11 @@ from ..read.looks import Look, look_at
 from ..read.items import Reading
 from ..read.several import open_tables
 from ..read.sources import Row
-from ..read.stock import ON_ORDER, STOCK, read_holdings
+from ..read.stock import EXPORTED, ON_ORDER, STOCK, read_holdings
 from ..read.configuration import made_from
 from ..show.today_tables import OrderDays
 from .front import Front
-from .kept import OF_MASTERS, TODAY, Desk, Dropped, Placed
+from .kept import OF_MASTERS, Desk, Dropped, Placed
 
 DAYS, FILES = "days", "files of today"  # what the front keeps of them
 DAY = len("2026-11-30")
@@ -187,7 +187,9 @@ def today_files(own: Front) -> TodayFiles:
 def _read(own: Front, numbers: set[str]) -> TodayFiles:
     """Reads the files of today, and finds the rows of open orders with some numbers."""
     desk, days = own.desk, last_plan(own).days.days
-    tables, files = desk.tables(TODAY), {kind: desk.files_of(kind) for kind in TODAY}
+    tables, files = desk.tables(EXPORTED), {
+        kind: desk.files_of(kind) for kind in EXPORTED
+    }
     masters = masters_with_stock(own)
     if masters:
         files[STOCK] = desk.files_of("items")

@@ -1,7 +1,7 @@
 """Says how the files of a catalogue are read, and what is left out of them: what became of their rows and items."""
 from __future__ import annotations
 
-from collections.abc import Callable, Mapping, Sequence
+from collections.abc import Callable, Collection, Mapping, Sequence
 from dataclasses import dataclass
 from fractions import Fraction
 from functools import partial
@@ -65,22 +65,28 @@ class Reject:
     value: Fraction | None = None
 
 
-def by_place(read: Callable[[str, Any], Any], type: str, metavar: str) -> Kind:
+def by_place(
+    read: Callable[[str, Any], Any],
+    type: str,
+    metavar: str,
+    roles: Mapping[str, Collection[str]] = ROLES,
+    what: str = "column",
+) -> Kind:
     """Returns the kind of values by table and role, or by FILE.ROLE, each of which is read with its role."""
 
-    def roles_of(file: str) -> Sequence[str]:
+    def roles_of(file: str) -> Collection[str]:
         if file not in ROLES:
             raise Refused("there is no such table", near(file, ROLES))
-        return ROLES[file]
+        return roles[file]
 
     def of_role(file: str, role: str, value: Any) -> Any:
         if role not in roles_of(file):
-            raise Refused("there is no such column", near(role, ROLES[file]))
+            raise Refused(f"there is no such {what}", near(role, roles[file]))
         return read(role, value)
 
-    def of_file(file: str, roles: Any) -> dict[str, Any]:
+    def of_file(file: str, values: Any) -> dict[str, Any]:
         roles_of(file)
-        own = table_in(roles)
+        own = table_in(values)
         return entries({role: partial(of_role, file, role, own[role]) for role in own})
 
     def read_all(value: Any) -> dict[str, dict[str, Any]]:
@@ -114,24 +120,6 @@ WRITTEN: Mapping[str, Read] = {
     "decimal": by_name(DECIMAL.read, "", "").read,
     "day_first": by_name(YES.read, "", "").read,
 }
-
-
-def file_written(value: Any) -> dict[str, Any]:
-    """Returns how a single file is written. Raises Refused."""
-    stated = table_in(value)
-    for name in stated:
-        if name not in WRITTEN:
-            raise Refused(f"there is no key {shown(name)}", near(name, WRITTEN))
-    return entries({name: partial(WRITTEN[name], stated[name]) for name in stated})
-
-
-def files_written(value: Any) -> dict[str, Any]:
-    """Returns how single files are written, by table. Raises Refused."""
-    stated = table_in(value)
-    for name in stated:
-        if name not in ROLES:
-            raise Refused(f"there is no table {shown(name)}", near(name, ROLES))
-    return named(file_written, stated)
 
 
 KEPT = choice(KEEP, LEAVE_OUT)
@@ -232,7 +220,13 @@ class Reading(Defaults, Rules):
         "those whose status says so.",
     )
     written: Mapping[str, Mapping[str, object]] = word(
-        Kind(files_written, "dict", shape=PAIRS),
+        by_place(
+            lambda name, value: WRITTEN[name](value),
+            "dict",
+            "FILE.KEY=VALUE",
+            dict.fromkeys(ROLES, WRITTEN),
+            "key",
+        ),
         {},
         "How a single file is written: its delimiter, its encoding, the decimal sign of each of its columns, and by the sign "
         'of its dates whether the day comes first, as {"demand": {"delimiter": ";", "decimal": {"quantity": '

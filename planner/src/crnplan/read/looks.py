@@ -132,7 +132,9 @@ def looks_as(
     with contextlib.ExitStack() as stack:
         with contextlib.suppress(Refused):
             rules = words.rules_of(kinds[0])
-            stack.enter_context(opened(table, kinds[0], rules, room))
+            sheet = stack.enter_context(opened(table, kinds[0], rules, room))
+            if table.lower().endswith(".gz"):
+                table = str(sheet.path)  # It is unpacked once.
         seen = [look_at(kind, table, words, room) for kind in kinds]
     return seen
 

@@ -18,9 +18,10 @@ from .workbooks import BOOKS, OLD, sheet_of_book
 if TYPE_CHECKING:
     import pandas as pd
 
-# A file, a DataFrame, or what stands for one: a Series, columns by name, or rows.
+# A file, several with one heading, a DataFrame, or what stands for one: a Series, columns by name, or rows.
 Columns = Mapping[str, object]
-Table = Union[str, Path, "pd.DataFrame", "pd.Series", Columns, Sequence[Columns]]
+Named = Union[str, Path, tuple[str, ...]]
+Table = Union[Named, "pd.DataFrame", "pd.Series", Columns, Sequence[Columns]]
 # What a gzipped file may unpack to, and a pipe may give: a million items with 140 rows each have some 4 GB.
 MOST_UNPACKED = 8_000_000_000
 PIECE = 1 << 20

@@ -42,21 +42,25 @@ class Files(Sheet):
 
 
 def files_of(table: Table, kind: str) -> tuple[Sequence[Table], Sequence[str]]:
-    """Returns the files that a pattern names, in order, and the names of locks among them, which are no tables; the table
-    itself if it is no pattern, or a file has this very name. Raises RefusedFaults for several files of masters.
-    """
-    if (
-        not isinstance(table, (str, Path))
-        or not glob.has_magic(str(table))
-        or Path(table).exists()
-    ):
-        return [table], []
-    names = sorted(glob.glob(str(table)))
+    """Returns the files that a pattern names, in order, or several names, and the names of locks among them, which are no
+    tables; the table itself if it is no pattern, or a file has this very name. Raises RefusedFaults for several files
+    of masters."""
+    names = list[str]()
+    for name in table if isinstance(table, tuple) else [table]:
+        if not isinstance(name, (str, Path)):
+            return [table], []
+        has_file = Path(name).exists()
+        names += not has_file and sorted(glob.glob(str(name))) or [str(name)]
     locks = [name for name in names if Path(name).name.startswith(LOCK)]
-    tables: Sequence[Table] = sorted({*names} - {*locks})
+    tables: Sequence[Table] = [name for name in names if name not in locks]
     if kind == "items" and len(tables) > 1:
-        raise refused("several files", str(table), count=len(tables))
-    return tables or [table], [Path(name).name for name in locks]
+        raise refused("several files", called(table), count=len(tables))
+    return tables or names, [Path(name).name for name in locks]
+
+
+def called(table: Table) -> str:
+    """Returns how messages call a table."""
+    return ", ".join(table) if isinstance(table, tuple) else str(table)
 
 
 def open_table(
@@ -88,7 +92,7 @@ def open_table(
                 faults.append(sheet.fault_of(what))
     if faults:
         raise RefusedFaults(faults)
-    sheet = sheets[0] if len(sheets) == 1 else Files(str(table), sheets)
+    sheet = sheets[0] if len(sheets) == 1 else Files(called(table), sheets)
     sheet.locks = locks
     return sheet
 

@@ -107,7 +107,7 @@ class Learning:
         return Way(words, settings, self.prior)
 
     def corrected(self) -> Way | Remark:
-        """Returns the fill rates at which items would have aimed by their records alone, as `--correct` has them; or why
+        """Returns the fill rates at which items would have aimed by their records alone, as `correct` has them; or why
         they would not. What was tried is kept in the folder."""
         on = ways_of(self.settings)
         words = self.folder, self.read, on, self.prior, self.means, OF_RECORDS
