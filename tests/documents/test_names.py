@@ -19,6 +19,7 @@ ROWS = re.findall(r"^- `((?:crn|tests_|uses)[a-z_]*)`:", CRATES, re.MULTILINE)
 # What the program gives out. Each is defined in a crate below it, so main.rt compiles only if it is there.
 PROGRAM_NAMES = {
     "simulate",
+    "simulate_lanes",
     "leg",
     "resume",
     "migrate",

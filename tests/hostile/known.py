@@ -112,6 +112,7 @@ class Reads(NamedTuple):
 READS = {
     "": Reads("scenario"),
     "run": Reads("scenario"),
+    "lanes": Reads("scenario"),
     "leg N": Reads("scenario", shown=start_text),
     "resume FILE": Reads(
         "scenario", "checkpoint", formats.CHECKPOINT_VERSIONS[-1:], 4, report_lines
@@ -230,10 +231,11 @@ def of_policies(count: int) -> tuple[bytes, bytes, bytes]:
 
 
 def runs_of_policies(count: int) -> list[Command]:
-    """Returns `run`, `leg` and `resume` of so many policies. Each starts as many threads."""
+    """Returns `run`, `lanes`, `leg` and `resume` of so many policies. Each but `lanes` starts as many threads."""
     scenario, report, cut = of_policies(count)
     return [
         Command(f"run-of-{count}", ["run"], scenario, report, starts=count),
+        Command(f"lanes-of-{count}", ["lanes"], scenario, report),
         Command(f"leg-of-{count}", ["leg", "1"], scenario, cut, starts=count),
         Command(
             f"resume-of-{count}",
@@ -318,6 +320,7 @@ def refused_commands() -> list[Command]:
     broken = swapped(scenario, b"initial = 10\n", b"initial = -1\n")
     return [
         Command("run-on-a-broken-rule", ["run"], broken, fault="scenario 6"),
+        Command("lanes-on-a-broken-rule", ["lanes"], broken, fault="scenario 6"),
         Command(
             "leg-on-no-document", ["leg", "1"], scenario + b"[", fault="scenario 1"
         ),

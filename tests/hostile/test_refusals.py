@@ -27,7 +27,7 @@ from tests.preload import Counts, counts_of, environment
 from tests.runs import Shown
 
 BASE = base_commands()
-# Runs of so many policies have starts of threads refused.
+# Runs of so many policies have starts of threads refused, if they start any.
 STARTED = BASE + [it for count in (1, 2, 3, 16) for it in runs_of_policies(count)]
 # More requests for memory than any of these runs makes: a run that never succeeds without a refusal ends here.
 MOST = 5000
@@ -132,7 +132,7 @@ def test_refused_memory(
     check_all(cases())
 
 
-@pytest.mark.parametrize("command", STARTED, ids=named)
+@pytest.mark.parametrize("command", [it for it in STARTED if it.starts], ids=named)
 def test_refused_starts(
     program: Path,
     preload_library: Path,
@@ -159,7 +159,7 @@ def test_refused_starts(
 def test_no_refusal(
     program: Path, preload_library: Path, room: Path, command: Command
 ) -> None:
-    """A run without a refusal starts a thread for each policy, and no other."""
+    """A run without a refusal starts a thread for each policy, `lanes` none, and no other."""
     its = command.in_room(room)
     shown, counts = counted(
         program, its, preload_library, room, refuse_thread=its.starts + 1

@@ -308,7 +308,7 @@ def checkpoint(text: str, block: int, version: int = NEWEST) -> str:
 def answer(words: Sequence[str], text: str) -> str | None:
     """Returns what crnsim writes for the words of its command line and a scenario; None for an unknown command."""
     match words:
-        case [] | ["run"]:
+        case [] | ["run"] | ["lanes"]:
             return report_of(run_of(text))
         case ["leg", block]:
             return checkpoint(text, int(block))

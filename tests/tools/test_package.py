@@ -40,7 +40,16 @@ COPIED = [
 ]
 # What else the Debian package has below /usr than Python. In place of crnplan stands tests/tools/program.py.
 PAGES = {
-    "crnsim": ["", "-run", "-leg", "-resume", "-migrate", "-words", "-replay"],
+    "crnsim": [
+        "",
+        "-run",
+        "-lanes",
+        "-leg",
+        "-resume",
+        "-migrate",
+        "-words",
+        "-replay",
+    ],
     "crnplan": ["", "-run", "-leg", "-words"],
 }
 SHELLS = [

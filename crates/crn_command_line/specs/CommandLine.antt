@@ -37,6 +37,7 @@ pub record IsRing (texts : Texts) (size readers total : ℕ) : Type 0 where
 -- the name and the texts are this command
 abbrev pub Names : List ℕ → Texts → Command → Type 0
 Names name texts command.Run = name ≡ codes "run"
+Names name texts command.Lanes = name ≡ codes "lanes"
 Names name texts (command.Words key n) = (name ≡ codes "words") × IsBlock texts key n
 Names name texts (command.Replay size readers total) = (name ≡ codes "replay") × IsRing texts size readers total
 Names name texts (command.Leg n) = (name ≡ codes "leg") × IsNumber 64 (texts (codes "N")) n

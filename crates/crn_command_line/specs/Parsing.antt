@@ -28,6 +28,7 @@ command_with name arguments = (with_arguments (new_app name) arguments).top
 
 abbrev pub commands : List Shape
 commands = command_with (codes "run") []
+    ∷ command_with (codes "lanes") []
     ∷ command_with (codes "leg") (codes "N" ∷ [])
     ∷ command_with (codes "resume") (codes "FILE" ∷ [])
     ∷ command_with (codes "migrate") (codes "FILE" ∷ [])

@@ -16,6 +16,8 @@ use std::alloc::Global;
 pub enum Command {
     /// The report of the scenario on standard input.
     Run,
+    /// The same report, made on one thread.
+    Lanes,
     /// The words of block `n` of the stream of `key`.
     Words { key: [u64; 4], n: u64 },
     /// The trace of the schedule on standard input, for a ring of so many slots and readers that carries the blocks
@@ -64,12 +66,22 @@ pub(crate) struct CommandHelp {
 }
 
 /// The commands, in the order of the help.
-pub(crate) static COMMANDS: [CommandHelp; 6] = [
+pub(crate) static COMMANDS: [CommandHelp; 7] = [
     CommandHelp {
         name: "run",
         about: "Writes the report of the scenario on standard input",
         example: "Example:
   crnsim run < examples/spare_part.toml > report.csv",
+        args: &[],
+    },
+    CommandHelp {
+        name: "lanes",
+        about: "Writes the report that `run` writes, and starts no thread",
+        example: "It makes each draw once, for all policies, and runs them side by side. The size
+of the ring is judged, and not used.
+
+Example:
+  crnsim lanes < examples/spare_part.toml > report.csv",
         args: &[],
     },
     CommandHelp {
@@ -159,6 +171,7 @@ pub(crate) fn command_named(
 {
     match name {
         "run" => Ok(Command::Run),
+        "lanes" => Ok(Command::Lanes),
         "words" => block_words(words),
         "replay" => ring(words),
         "leg" => leg(words),

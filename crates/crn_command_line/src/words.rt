@@ -16,6 +16,7 @@ use std::alloc::{AllocError, Global};
 /// Reads the words that follow the program's name, with `clap`:
 ///
 /// - no word, or `run`;
+/// - `lanes`;
 /// - `words` with four key words of 16 digits `0-9a-f` and the number of a block;
 /// - `replay` with the size, the readers and the total of a ring;
 /// - `leg` with the number of a block;

@@ -10,7 +10,7 @@ use Rattle.std.specs.declared.alloc.AllocError.{AllocError}
 use Rattle.crn_checkpoint.specs.Reading.{IsTextOf}
 use Rattle.crn_engines.specs.Bytes.{ReadAll}
 use Rattle.crn_engines.specs.Inputs.{HasScenario, ReadScenario}
-use Rattle.crn_engines.specs.Commands.{HasEnough, MadeLeg, RefusesLeg, RefusesMigrate, RefusesReplay, HasCheckpoint, MadeResumed, RefusesResume, MadeReport, RefusesSimulation, is_writing}
+use Rattle.crn_engines.specs.Commands.{HasEnough, MadeLeg, RefusesLeg, RefusesMigrate, RefusesReplay, HasCheckpoint, MadeResumed, RefusesResume, MadeReport, RefusesLanes, RefusesSimulation, is_writing}
 use Rattle.crn_engines.specs.Refusals.{RefusesOutput, RefusesScenarioInput}
 use Rattle.crn_engines.specs.Inner.Refusals.{RefusesLegRun, RefusesOldText, RefusesOnward, RefusesOnwardRun, RefusesRun, RefusesScheduleText, RefusesTrace}
 
@@ -50,6 +50,18 @@ to_simulation (fault.Writing w) a b h = absurd h
 to_simulation (fault.Thread t) a b h = absurd h
 to_simulation fault.Gate a b h = h
 to_simulation (fault.Memory m) a b h = h
+
+pub to_lanes : (e : Fault) (a b : Option (List ℕ)) → RefusesScenarioInput e a b → RefusesLanes e a b
+to_lanes fault.CommandLine a b h = h
+to_lanes (fault.Scenario f) a b h = h
+to_lanes (fault.Checkpoint f) a b h = h
+to_lanes (fault.Migration f) a b h = h
+to_lanes (fault.Schedule f) a b h = h
+to_lanes (fault.Reading r) a b h = h
+to_lanes (fault.Writing w) a b h = absurd h
+to_lanes (fault.Thread t) a b h = h
+to_lanes fault.Gate a b h = h
+to_lanes (fault.Memory m) a b h = h
 
 pub to_leg : (e : Fault) (n : ℕ) (a b : Option (List ℕ)) → RefusesScenarioInput e a b → RefusesLeg n e a b
 to_leg fault.CommandLine n a b h = absurd h
@@ -131,6 +143,9 @@ of_output (fault.Memory m) P write h = absurd h
 
 pub output_of_simulation : (e : Fault) (a b : Option (List ℕ)) → HasScenario a b → RefusesOutput e → RefusesSimulation e a b
 output_of_simulation e a b read h = of_output e (λ f. RefusesSimulation f a b) (λ w. read) h
+
+pub output_of_lanes : (e : Fault) (a b : Option (List ℕ)) → HasScenario a b → RefusesOutput e → RefusesLanes e a b
+output_of_lanes e a b read h = of_output e (λ f. RefusesLanes f a b) (λ w. read) h
 
 pub output_of_leg : (e : Fault) (n : ℕ) (a b : Option (List ℕ)) → HasEnough n a b → RefusesOutput e → RefusesLeg n e a b
 output_of_leg e n a b read h = of_output e (λ f. RefusesLeg n f a b) (λ w. read) h

@@ -67,6 +67,13 @@ RefusesSimulation (fault.Thread _) reading reading' = HasScenario reading readin
 RefusesSimulation (fault.Writing _) reading reading' = HasScenario reading reading'
 RefusesSimulation e reading reading' = RefusesScenarioInput e reading reading'
 
+-- ---- lanes
+
+-- a run on one thread writes what a run writes, and no fault of a thread comes
+abbrev pub RefusesLanes : Fault → Option (List ℕ) → Option (List ℕ) → Type 0
+RefusesLanes (fault.Thread _) reading reading' = ⊥
+RefusesLanes e reading reading' = RefusesSimulation e reading reading'
+
 -- ---- leg
 
 -- the text is that of a leg up to block n of the scenario that the input is a text of
@@ -278,6 +285,7 @@ pub record Unread (a b : Streams) : Type 0 where
 -- just what the command asks for was read and written
 abbrev pub Answered : Command → Streams → Streams → Type 0
 Answered command.Run a b = Keeps a.saved b.saved × WroteReport a.reading b.reading a.held b.held
+Answered command.Lanes a b = Keeps a.saved b.saved × WroteReport a.reading b.reading a.held b.held
 Answered (command.Words key n) a b = Unread a b × Appends a.held b.held (words_text key n)
 Answered (command.Replay size readers total) a b = Keeps a.saved b.saved × WroteTrace (replayed size readers total) a.reading b.reading a.held b.held
 Answered (command.Leg n) a b = Keeps a.saved b.saved × WroteLeg n a.reading b.reading a.held b.held
@@ -288,6 +296,7 @@ Answered (command.Help text) a b = Unread a b × Appends a.held b.held (string_b
 -- a prefix of what the command asks for was written
 abbrev pub AnsweredFront : Command → Streams → Streams → Type 0
 AnsweredFront command.Run a b = WroteFront a.reading b.reading a.held b.held
+AnsweredFront command.Lanes a b = WroteFront a.reading b.reading a.held b.held
 AnsweredFront (command.Words key n) a b = AppendsFront a.held b.held (words_text key n)
 AnsweredFront (command.Replay size readers total) a b = WroteTraceFront (replayed size readers total) a.reading b.reading a.held b.held
 AnsweredFront (command.Leg n) a b = WroteLegFront n a.reading b.reading a.held b.held
@@ -298,6 +307,7 @@ AnsweredFront (command.Help text) a b = AppendsFront a.held b.held (string_bytes
 -- the command is refused for a fault, and this is what the fault tells of what was read
 abbrev pub Refuses : Command → Fault → Streams → Streams → Type 0
 Refuses command.Run e a b = Keeps a.saved b.saved × RefusesSimulation e a.reading b.reading
+Refuses command.Lanes e a b = Keeps a.saved b.saved × RefusesLanes e a.reading b.reading
 Refuses (command.Words _ _) e a b = Unread a b × RefusesWords e
 Refuses (command.Replay size readers total) e a b = Keeps a.saved b.saved × RefusesReplay size readers total e a.reading b.reading
 Refuses (command.Leg n) e a b = Keeps a.saved b.saved × RefusesLeg n e a.reading b.reading

@@ -6,6 +6,7 @@ ghost use Rattle.crn_engines.specs.Commands.{Streams, Answered, AnsweredFront, R
 
 use crate::block_words::write_words;
 use crate::fault::Fault;
+use crate::lanes::simulate_lanes;
 use crate::legs::leg;
 use crate::migration::migrate;
 use crate::replay::replay_run;
@@ -23,8 +24,8 @@ use std::thread::Threads;
 ///
 /// # Errors
 ///
-/// Those of the command's engine: [`simulate`], [`write_words`], [`replay_run`], [`leg`], [`resume`] or [`migrate`]. For
-/// `Help` it is `Writing` alone.
+/// Those of the command's engine: [`simulate`], [`simulate_lanes`], [`write_words`], [`replay_run`], [`leg`], [`resume`] or
+/// [`migrate`]. For `Help` it is `Writing` alone.
 pub fn answer_command<H: Threads + Wait + Sync, C: Read, R: Read, W: Write>(
     rt: &H,
     alloc: Global,
@@ -40,6 +41,7 @@ pub fn answer_command<H: Threads + Wait + Sync, C: Read, R: Read, W: Write>(
 {
     match command {
         Command::Run => simulate(rt, alloc, reader, writer),
+        Command::Lanes => simulate_lanes(alloc, reader, writer),
         Command::Words { key, n } => write_words(alloc, *key, *n, writer),
         Command::Replay {
             size,

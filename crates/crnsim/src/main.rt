@@ -10,7 +10,7 @@ ghost use Rattle.crn_engines.specs.declared.input.ReadFault.TheVariants.{Failed}
 pub use crn_command_line::Command;
 pub use crn_engines::{
     Fault, ReadFault, WriteFault, answer_command, leg, migrate, read_words, replay_run, resume,
-    simulate, write_words,
+    simulate, simulate_lanes, write_words,
 };
 use std::alloc::AllocError;
 use std::fs::File;

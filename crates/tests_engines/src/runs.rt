@@ -3,7 +3,7 @@
 
 use crate::fakes::{Narrow, Trickle, tells_read};
 use crn_checkpoint::{CheckpointFault, MigrateFault};
-use crn_engines::{Fault, ReadFault, WriteFault, simulate, write_words};
+use crn_engines::{Fault, ReadFault, WriteFault, simulate, simulate_lanes, write_words};
 use crn_run::ThreadFault;
 use crn_scenario::ScenarioFault;
 use crn_trace::ScheduleFault;
@@ -65,11 +65,20 @@ fn run_tells_read<H: Threads + Wait + Sync>(rt: &H, alloc: Global, k: u64, reads
     tells_read(answer, out.as_slice(), k <= reads, ONE_POLICY_REPORT)
 }
 
+// The same of a run on one thread.
+fn lanes_tell_read(alloc: Global, k: u64, reads: u64) -> bool {
+    let mut reader = Trickle::new(ONE_POLICY.as_bytes(), 100, k);
+    let mut out = Vec::new(alloc);
+    let answer = simulate_lanes(alloc, &mut reader, &mut out);
+    tells_read(answer, out.as_slice(), k <= reads, ONE_POLICY_REPORT)
+}
+
 #[test]
 fn reads_that_fail(rt: HostRuntime) -> Result<(), Fail> {
     let reads = ONE_POLICY.len() as u64 / 100 + 2;
     for k in 1..reads + 2 {
         assert!(rt; run_tells_read(&rt, rt.alloc(), k, reads), "at {k}");
+        assert!(rt; lanes_tell_read(rt.alloc(), k, reads), "lanes at {k}");
     }
     Ok(())
 }
@@ -87,12 +96,22 @@ fn run_tells_write<H: Threads + Wait + Sync>(
     out.tells(answer, ONE_POLICY_REPORT)
 }
 
+// The same of a run on one thread.
+fn lanes_tell_write(alloc: Global, k: u64, takes_none: bool) -> bool {
+    let mut reader = ONE_POLICY.as_bytes();
+    let mut out = Narrow::new(alloc, k, takes_none);
+    let answer = simulate_lanes(alloc, &mut reader, &mut out);
+    out.tells(answer, ONE_POLICY_REPORT)
+}
+
 #[test]
 fn writes_that_fail(rt: HostRuntime) -> Result<(), Fail> {
     for takes_none in [false, true] {
         for k in 1..ONE_POLICY_REPORT.len() as u64 + 2 {
             let is_told = run_tells_write(&rt, rt.alloc(), k, takes_none);
             assert!(rt; is_told, "at {k}");
+            let is_told = lanes_tell_write(rt.alloc(), k, takes_none);
+            assert!(rt; is_told, "lanes at {k}");
         }
     }
     Ok(())

@@ -24,6 +24,7 @@ fn is_refused(rt: &HostRuntime, words: &[&str]) -> bool {
 #[derive(Clone, Copy)]
 enum Wanted {
     Run,
+    Lanes,
     Words([u64; 4], u64),
     Replay(u64, u32, u64),
     Leg(u64),
@@ -45,11 +46,13 @@ const KEY: [u64; 4] = [0x0123_4567_89ab_cdef, 0xfedc_ba98_7654_3210, 0, u64::MAX
 const LAST: &str = "18446744073709551615";
 
 // Words, and what they should be read as.
-static TAKEN: [(&[&str], Wanted); 41] = [
+static TAKEN: [(&[&str], Wanted); 43] = [
     (&[], Wanted::Run),
     (&["run"], Wanted::Run),
     (&["--"], Wanted::Run),
     (&["run", "--"], Wanted::Run),
+    (&["lanes"], Wanted::Lanes),
+    (&["lanes", "--"], Wanted::Lanes),
     (&["words", A, B, O, F, "0"], Wanted::Words(KEY, 0)),
     (&["words", A, B, O, F, "10"], Wanted::Words(KEY, 10)),
     (&["words", A, B, O, F, LAST], Wanted::Words(KEY, u64::MAX)),
@@ -100,7 +103,7 @@ static TAKEN: [(&[&str], Wanted); 41] = [
 ];
 
 // Words that are no command: misspelt, too few, too many or outside their type.
-static REFUSED: [&[&str]; 49] = [
+static REFUSED: [&[&str]; 52] = [
     &[""],
     &[" "],
     &["walk"],
@@ -117,6 +120,9 @@ static REFUSED: [&[&str]; 49] = [
     &["run", ""],
     &["run", "run"],
     &["run", "--", "--"],
+    &["lane"],
+    &["Lanes"],
+    &["lanes", "1"],
     &["words"],
     &["words", A, B, O, F],
     &["words", A, B, O, "0"],
@@ -156,6 +162,7 @@ static REFUSED: [&[&str]; 49] = [
 fn is_wanted(command: &Command, wanted: Wanted) -> bool {
     match (command, wanted) {
         (Command::Run, Wanted::Run) => true,
+        (Command::Lanes, Wanted::Lanes) => true,
         (Command::Words { key, n }, Wanted::Words(a, b)) => *key == a && *n == b,
         (
             Command::Replay {
