@@ -37,7 +37,8 @@ WORDS = """
 ## crnplan.toml
 
 The keys of the table `[catalogue]`, which are arguments of calls and fields of the desk too. A value is read alike wherever it is said: a
-share is `95%` or `0.95`, a table of names is a table or texts `NAME=VALUE`. Tables `[catalogue.demand]`, `[catalogue.items]` and so on have
+share is `95%` or `0.95`, a table of names is a table or texts `NAME=VALUE`. A command takes `--set KEY=VALUE` for once, and
+`--set KEY.NAME=VALUE` for an entry of a table, as `--set service.A=98%` and `--set demand.quantity=Menge`. Tables `[catalogue.demand]`, `[catalogue.items]` and so on have
 the columns of a table by their roles.
 """
 AS_ORDERS = "Other columns are as in `today_orders.csv`."

@@ -13,7 +13,7 @@ import crnplan as crn
 from crnplan.desk.kept import LAST_TEST, PLANS, Begun, DeskOverride
 from crnplan.desk.safety import WHOLE_PAGE
 from crnplan.desk.work import STOPPED, TESTING
-from crnplan.read.overrides import SET_LEVELS, DeskOverride as Stated
+from crnplan.read.overrides import SET_LEVELS, Override as Stated
 from crnplan.read.overriding import read_overrides
 from crnplan.read.items import Reading
 from crnplan.read.configuration import made_from

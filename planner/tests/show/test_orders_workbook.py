@@ -17,7 +17,7 @@ from crnplan.plan.standing import Standing
 from crnplan.read.quantities import Quantity
 from crnplan.show import workbook
 from crnplan.show.today_tables import OrdersToday
-from crnplan.show.workbook import sheet_name
+from crnplan.show.book import sheet_name
 from planner.tests.conftest import Command
 from planner.tests.plan.test_orders import today_of
 from planner.tests.plan.test_today import standing_of

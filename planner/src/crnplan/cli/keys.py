@@ -8,8 +8,8 @@ from typing import Any
 from ..errors import Refused
 from ..plan.how import Settings
 from ..read.columns import ROLES
-from ..read.items import Reading
 from ..read.configuration import COLUMNS, made_from, merged, stated
+from ..read.items import Reading
 from ..spelling import argument
 from ..toml.documents import shown
 from ..vocabulary import FLAG, PAIRS, TEXTS, Word, near, several

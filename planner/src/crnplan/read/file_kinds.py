@@ -39,7 +39,7 @@ def fault(code: str, file: str, **facts: Value) -> Fault:
     return Fault(Remark(code, {"name": file, **facts}), file)
 
 
-class Files:
+class SortedFiles:
     """Files by their kinds: as is `stated`, or as they were `found`; what is `said` of them, and what is `asked`."""
 
     def __init__(self, kinds: Sequence[str], words: Reading) -> None:
@@ -152,6 +152,6 @@ def files_by_kind(
 ) -> tuple[dict[str, Table | None], list[Fault]]:
     """Returns the tables of some kinds among files, which may be folders, patterns or KIND=FILE, and what is to be said of
     each file. Raises RefusedFaults with a question for each that can't be told."""
-    files = Files(kinds, words)
+    files = SortedFiles(kinds, words)
     files.add(names)
     return files.settle(), files.said
