@@ -167,3 +167,11 @@ def test_suppliers_of_masters(heading: list[str], least: int) -> None:
         masters = masters_of({**MASTER, **cells})
         item = items_of(read_catalogue(demand_of("A"), masters, today=TODAY))["A"]
         assert (item.supplier, item.supplier_min) == wanted
+
+
+def test_a_closed_line_in_a_unit_that_nobody_knows(tmp_path: Path) -> None:
+    """Reads the other lines: how many items were ordered in that one is not known, and nobody needs to say it."""
+    lines = "item,quantity,uom,status\nA,10,pcs,open\nA,5,XYZ,closed\nA,7,pcs,closed"
+    holdings = read(tmp_path, on_order=lines)
+    assert holdings.arrivals == {"A": [Arrival(Fraction(10))]}
+    assert holdings.filed == {"A": [10, 7]}

@@ -271,6 +271,9 @@ class _Reader:
         for name, rows in self.found.items():
             filed[name] += [values["filed"] for values in rows]
         for row in np.flatnonzero(self.closed).tolist():
+            unit = text_of(self.rows.cell("measure", row))
+            if unit not in self.sizes and "factor" not in self.rows.columns:
+                continue  # How many items it was of is not known, and nobody is asked.
             values, faults = self._read(row)
             if not faults:
                 filed[self.names[self.rows.items[row]]].append(values["filed"])
