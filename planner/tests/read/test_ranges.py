@@ -160,6 +160,7 @@ def rows_in_ranges(
 @example("A,1,2\nA,1,2,3,4\n", 200)
 @example("A,1,2,3,4\nA,1,2,3\n", 200)
 @example("A,1,2,3\n" * 3 + "\ufeffA,1,2,3\n", 8)
+@example("\nA,A,,\nA,,,\n", 1)
 def test_any_cuts_give_the_rows_of_csv(text: str, size: int) -> None:
     """Reads any small table in ranges of any size, by pandas where it may, as csv reads all of it at once."""
     text = HEADING + FIRST + text

@@ -15,6 +15,7 @@ import itertools
 import pickle
 import re
 import zlib
+from collections import Counter
 from collections.abc import Callable, Iterable, Iterator, Sequence
 from dataclasses import dataclass, field
 from pathlib import Path
@@ -73,10 +74,10 @@ class CodedColumn(NamedTuple):
         places = codes.of(map(read, self.distinct))
         return CodedColumn(places[self.codes[kept]], codes.distinct)
 
-    def counts(self, rows: Flags) -> dict[Cell, int]:
-        """Returns how many of some rows have each cell that one of them has."""
-        counts = np.bincount(self.codes[rows]).tolist()
-        return {cell: count for cell, count in zip(self.distinct, counts) if count}
+    def counts(self, rows: Flags) -> Counter[Cell]:
+        """Returns how many of some rows have each cell, in order of codes; also 0, so that the order is that of all rows."""
+        counts = np.bincount(self.codes[rows], minlength=len(self.distinct)).tolist()
+        return Counter(dict(zip(self.distinct, counts)))
 
     def hashes(self) -> npt.NDArray[np.uint64]:
         """Returns a hash of 64 bits of each row's cell, the same in all processes."""
@@ -154,7 +155,7 @@ class Block:
         )
 
     def seen(self) -> Seen:
-        """Returns how many good rows have each value that one has, in order of the first row that has it."""
+        """Returns how many good rows have each value, in order of the first row that has it."""
         seen: Seen = {}
         for role, column in self.columns.items():
             if role not in ("item", "description"):

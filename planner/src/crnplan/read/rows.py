@@ -131,7 +131,7 @@ class Rows:
         """Returns how many good rows have each value of a column that one has; nothing if there is no column."""
         if role not in self.columns:
             return {}
-        return self.columns[role].counts(self.good)
+        return dict(+self.columns[role].counts(self.good))
 
     def by_item(
         self, good: Flags, values: Numbers | None = None

@@ -87,7 +87,7 @@ class FiledTable:
 
     def counts(self, role: str) -> dict[Cell, int]:
         """Returns how many good rows have each value of a column that one has; nothing if there is no column."""
-        return self.seen.get(role, Counter())
+        return dict(+self.seen.get(role, Counter()))
 
     def pieces(self, part: int) -> list[Piece]:
         """Returns where the rows of a part are."""
