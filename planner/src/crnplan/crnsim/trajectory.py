@@ -28,7 +28,7 @@ from .pictures import trajectories_picture
 from .report import rows_of_run
 
 JOBS = 8  # runs at a time: each is short, so that starting it takes most of its time
-PERIODS_OF_BLOCK = 4
+PERIODS_OF_BLOCK = 4  # each has a word of 64 bits of a block, in each stream
 # The words of a block as the program writes them: a line with its name for each of formats.DRAWS.
 WORDS = re.compile(
     "".join(

@@ -43,7 +43,7 @@ MOST_EFFECT = 0.25
 # Runs and theory are said to differ if chance alone lets them differ so much in this share of tables.
 CHANCE_OF_ALARM = 0.001
 KEYS = 48
-LEAST_KEYS, MOST_KEYS = 2, formats.MOST_REPLICATIONS
+LEAST_KEYS, MOST_KEYS = 2, formats.MOST_REPLICATIONS  # one has no variance
 
 
 @dataclass(frozen=True, eq=False, repr=False)

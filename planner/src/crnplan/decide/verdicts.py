@@ -30,7 +30,7 @@ FEWEST_ORDERS = 2  # of the rarer policy of a comparison, in all replications
 COLUMNS = columns_of("decide", "compared", span="replication")
 LONG_RUN_COLUMNS = columns_of("decide", "compared", span="period")
 THEORY_COST = "theory_cost"  # the column that stands if some policy has a figure
-MOST_ROWS = 20
+MOST_ROWS = 20  # that are shown unless all are asked for
 VERDICTS = {
     "better": "better than {}",
     "worse": "worse than {}",

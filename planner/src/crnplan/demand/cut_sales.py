@@ -35,6 +35,7 @@ BY_LIKELIHOOD = (
 )
 PARTS = 1_000  # in which a period counts, so that one that is spread has whole counts
 STEPS = 200  # of expectation and maximisation, at most
+# Its multiples, modulo 1, spread evenly: so does an order by them.
 GOLDEN = (math.sqrt(5) - 1) / 2
 
 

@@ -18,7 +18,7 @@ Parameters = tuple[
     Any, ...
 ]  # of a family: numbers of a member, or columns with one for each of several
 UNIFORMS = 5  # columns of uniform numbers, at most, for members
-LEAST_CHANCE = 1e-300
+LEAST_CHANCE = 1e-300  # in place of 0, whose logarithm is not finite
 FIRST_WIDTH = 128  # of drawn laws; ever more until all but a tail is there
 
 

@@ -39,6 +39,7 @@ from .fitted import (
 )
 from .sample import Sample, Shares, shares_of
 
+# The cap is about the largest of so many demands, by the largest of those seen.
 DEMANDS_OF_CAP = 300
 LEAST_TIMES, MOST_TIMES = 2.0, 3.0  # the cap of `auto`, in largest demands seen
 PERIODS = np.logspace(-2, 2, 41)  # for which a law counts beside each of the history

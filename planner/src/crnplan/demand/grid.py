@@ -45,7 +45,7 @@ LEAST_TAIL, LEVELS = (
 )  # what is cut off the law of a size, and the powers of ten from 1 to that
 CHUNK = 250  # histories that are computed with at once: as many as a processor's cache has room for
 LEAST_LIKELIHOOD = 1e-30  # Smaller ones count for nothing; their products would be denormal numbers, which are slow.
-STEPS = 100
+STEPS = 100  # of the estimate of a prior
 BLUR = 0.05  # the part of a cell that goes to each neighbour along each axis
 
 

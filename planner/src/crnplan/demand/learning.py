@@ -37,8 +37,8 @@ UNITS = (
 )  # of a chance of 1: the last bits of a sum, which differ by machine, are rounded off
 KIND = "prior of crnplan"
 NONE, CLASS, ALL = BORROW  # "all" is the name of the prior of the whole catalogue too
-LEAST_ITEMS = 100
-LEAST_ON_REQUEST = 30
+LEAST_ITEMS = 100  # from which on items learn from each other unasked
+LEAST_ON_REQUEST = 30  # from which on they learn if asked
 MOST_ITEMS = 3000  # on which a prior is estimated
 FLAT_ITEMS = 1  # that the flat prior counts for
 CLASS_ITEMS = 30  # that the prior of the catalogue counts for in a class

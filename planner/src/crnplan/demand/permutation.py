@@ -37,7 +37,7 @@ MOST_CELLS = 1 << 18  # of the orders that are in memory at a time
 AT_ONCE = 40  # orders that are looked at before a test is left
 KEPT = 8  # such parts of the drawn orders, for further histories of as many periods
 ROUNDING = 1e-9  # Orders whose statistics differ by less are as suspicious.
-SEEN = 0.8
+SEEN = 0.8  # the chance with which a test would have seen an effect that is named
 SIZES = [step / 20 for step in range(1, 21)]  # of the effects that are tried
 # Within an equal block of time the mean stays: so many in the record, and at most so many in a part of a season.
 BLOCKS = 104

@@ -49,7 +49,7 @@ SHARES = [
     *(CONCENTRATIONS[:-1] / (1 + CONCENTRATIONS[:-1])).tolist(),
     1.0,
 ]  # of the family in the mean of its laws
-LEAST_SEEN = 1e-12
+LEAST_SEEN = 1e-12  # in place of 0, whose logarithm is not finite
 PROPOSED = 0.3  # what a number counts for the draws of members
 COUNTED = 0.5  # what a number counts in the posterior
 # Laws end at the largest demand seen, at the largest of so many demands, at least so many times the former, or between.

@@ -125,6 +125,7 @@ class Shares(NamedTuple):
         return all(share > least for share, least in zip(self, LEAST))
 
 
+# Below one of these the real history is unlike those of the law.
 LEAST = Shares(0.05, 0.05, 0.30, 0.10, 0.05)
 
 

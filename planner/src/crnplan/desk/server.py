@@ -30,7 +30,7 @@ from .kept import DESK, Desk
 from .language import as_field
 from .safety import MOST_UPLOAD, RequestJudge, Secret, channels_of, guard
 
-LOCAL = "127.0.0.1"
+LOCAL = "127.0.0.1"  # No other machine reaches the desk.
 # A browser keeps some six connections. One that sends nothing for so long is closed.
 THREADS, MOST_CONNECTIONS, SILENT_SECONDS = 4, 30, 60
 # Settings of the C library's memory: M_ARENA_MAX and M_TRIM_THRESHOLD, in bytes.

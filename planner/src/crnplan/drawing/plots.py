@@ -12,12 +12,12 @@ from typing import NamedTuple
 
 from .rendering import tick
 
-UNITS = 1000
+UNITS = 1000  # of the width, and of the height, of a picture
 MOST_TICKS = 5  # at an axis
 STEPS = 1.0, 2.0, 2.5, 5.0  # their distances but for powers of ten
 SLACK = 1e-10  # of a number of steps, which is rounded
 MOST_SIGNS = 12  # of texts at an axis that have room on a narrow page
-MARKS = 4
+MARKS = 4  # parts of an axis between names
 BAR = 0.85  # of the width of a period
 # The classes of lines: of today's policy or what was seen, and of the chosen policy or its law.
 OF_TODAY, OF_CHOSEN = "of-today", "of-chosen"

@@ -26,7 +26,7 @@ WORDS = (
     (1e6, 1e6, "million"),
     (1e5, 1e3, "thousand"),
 )
-MINUS = "\u2212"
+MINUS = "\u2212"  # as wide as a digit, so that columns stay in line
 FIGURES = 3  # of an amount that is rounded for a reader
 LARGE = 1_000  # Sums of so much money are shown in whole numbers.
 

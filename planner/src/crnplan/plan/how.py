@@ -36,7 +36,7 @@ from .following import Following
 from .prices import REST, VALUE, WEIGHTS, Prices, weight_of
 from .seasons import Seasons
 
-SEED_BITS = 32
+SEED_BITS = 32  # of the number that follows from the seed for each item and purpose
 # The settings that are learned of a catalogue, by name.
 LEARNED: Mapping[str, Any] = {
     "aims": Aims,

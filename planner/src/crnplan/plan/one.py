@@ -64,9 +64,9 @@ from .question import Levels, NoPolicy, Question, Unplanned, question_of
 from .yearly import PlannedMonth, over_year, verdict_of
 
 Result = TypeVar("Result")
-TENTHS = 0.1, 0.9
-LEAST_DEMANDS = 10
-ROUGH_RATES = 0.001
+TENTHS = 0.1, 0.9  # the ends of what 80% of the allowed laws say
+LEAST_DEMANDS = 10  # With fewer it is said that the law is hardly known.
+ROUGH_RATES = 0.001  # by this share whole numbers may differ from costs unsaid
 
 
 ComparedFigures = tuple[float | None, float | None, float | None, float | None]

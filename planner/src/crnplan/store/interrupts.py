@@ -8,7 +8,7 @@ import threading
 from collections.abc import Iterator
 from types import FrameType
 
-AGAIN_SECONDS = 0.5
+AGAIN_SECONDS = 0.5  # until an interrupt comes again that nothing has heeded
 
 
 @contextlib.contextmanager

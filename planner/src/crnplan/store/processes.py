@@ -19,8 +19,10 @@ from concurrent.futures import BrokenExecutor
 from pathlib import Path
 from typing import Any
 
-WATCH_SECONDS = 0.5
-JOIN_SECONDS = 1.0
+WATCH_SECONDS = 0.5  # between two looks whether the process at the other end still runs
+JOIN_SECONDS = (
+    1.0  # that a killed process has to end: one that waits for a disk may not
+)
 FORK = multiprocessing.get_context("fork")
 # One process begins at a time. Two that begin together would each keep an end of the other's pipe open.
 _begin_alone = threading.Lock()

@@ -23,7 +23,7 @@ AHEAD = 2  # batches of each worker that are under way
 MANY_BATCHES = 8  # of each worker, before batches get larger
 LOOKED_AT = 1_000  # questions at a time, whether they have answers
 MOST_WAITING = 2_000  # of what was asked, with answers that came before others
-MOST_LINES = 10
+MOST_LINES = 10  # of progress, in a log
 Row = TypeVar("Row")
 
 

@@ -7,8 +7,8 @@ from typing import TYPE_CHECKING
 if TYPE_CHECKING:
     from .long_run import Candidate
 
-GRID_GROWTH = 1.15
-SMALL_GAP = 8
+GRID_GROWTH = 1.15  # from a gap to the next, once they are not small
+SMALL_GAP = 8  # below which each gap is looked at
 CLOSE = 1 + 1e-9  # Costs whose ratio is at most this are equal but for rounding.
 
 

@@ -51,7 +51,7 @@ FEW = 4  # Of the gaps of a grid, one in so many is looked at for a first policy
 MOST_WORK = 20_000_000  # for all gaps of a search with several lead times, by `work_of`
 MOST_WALKED = 1_000  # Up to so many lows, sums over them take less time than those of all levels at once.
 EVEN = 1e-10  # Chances that differ by no more than this share are taken as the same by a search, not for figures.
-MOST_LEVEL = 1 << 60
+MOST_LEVEL = 1 << 60  # no bound; sums with it stay within 64 bits
 NONE = np.empty(0, int)
 
 

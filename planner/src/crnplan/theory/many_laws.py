@@ -39,7 +39,7 @@ OF_PAIR = 5
 LEAST_ROOM = 512
 TOGETHER = 8  # laws, whose tables then stay near the processor
 
-CONFIDENCE = 0.8
+CONFIDENCE = 0.8  # by default, of the laws that a history allows
 FACTORS = tuple(1.1**power for power in range(-5, 7))  # of the gap without a promise
 FEWER = (0.0, 0.125, 0.25, 0.5)  # further factors if S has a bound
 BESIDE = (

@@ -50,7 +50,7 @@ NEIGHBOURS = {
 }
 BEST = Remark("the best")
 MUCH = 0.001  # by which the best policy may cost more than one with s below 0, unsaid
-ROUGH = 0.05
+ROUGH = 0.05  # the share of a cost above which rounded figures are called rough
 # In percent: how much dearer than the best of all a policy of a search was in planner/studies/search.csv.
 MOST_EXCESS = 0.7
 

@@ -23,7 +23,7 @@ from ..compiled import compiled
 from ..law import Law
 from ..scenario import ScenarioData
 
-LEAST_CHANCE = 1e-17
+LEAST_CHANCE = 1e-17  # of the sum of chances: adding less changes no double near it
 MOST_PRODUCTS = 50_000  # of a direct convolution; a transform is faster for more
 DIGITS = 36  # e^-36 is below the rounding of a number.
 # Chances that differ by no more than this share are equal but for rounding. They are compared once in so many places.

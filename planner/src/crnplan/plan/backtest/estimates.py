@@ -15,7 +15,7 @@ import numpy as np
 from ...chances import Floats, Whole
 from ...decide.verdicts import t_quantile
 
-NO_BLOCK = -1
+NO_BLOCK = -1  # of weeks in a random order, which have no time in common
 MANY = 1_000_000  # degrees of freedom
 # Of intervals, this share does not hold the figure. So of catalogues whose promise holds, this share at most is said to
 # break it: half of it for each part of a miss.
