@@ -15,7 +15,7 @@ import pytest
 import crnplan as crn
 from crnplan.plan.standing import Standing
 from crnplan.read.quantities import Quantity
-from crnplan.show import workbook
+from crnplan.show import book as workbooks
 from crnplan.show.today_tables import OrdersToday
 from crnplan.show.book import sheet_name
 from planner.tests.conftest import Command
@@ -130,7 +130,7 @@ def test_a_day_without_orders(tmp_path: Path, monkeypatch: pytest.MonkeyPatch) -
     book = book_of(orders, tmp_path / "orders.xlsx")
     assert book.sheetnames == ["Orders by supplier"]
     assert sheet_cells(book.worksheets[0]) == [[*orders.lines.columns]]
-    monkeypatch.setattr(workbook, "MOST_ROWS", 2)
+    monkeypatch.setattr(workbooks, "MOST_ROWS", 2)
     with pytest.raises(crn.Refused, match="'Orders by supplier' would have more than"):
         orders_of(*map(named, "AB")).to_excel(tmp_path / "more.xlsx")
     assert not (tmp_path / "more.xlsx").exists()

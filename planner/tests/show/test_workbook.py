@@ -15,7 +15,7 @@ import pytest
 
 import crnplan as crn
 from crnplan.curve.exchange_curve import kept_curve
-from crnplan.show import workbook
+from crnplan.show import book as workbooks
 from crnplan.plan.catalogue import planned_folder
 from crnplan.read.catalogue_reading import READ
 from planner.tests.conftest import Command
@@ -187,7 +187,7 @@ def test_plain_plans_and_those_that_are_refused(
         crn.Refused, match="its plan is not as the rows that were read last"
     ):
         plan.to_excel(tmp_path / "stale.xlsx")
-    monkeypatch.setattr(workbook, "MOST_ROWS", 50)
+    monkeypatch.setattr(workbooks, "MOST_ROWS", 50)
     with pytest.raises(
         crn.Refused, match="'Decisions' would have more than 50 rows.*decisions.csv"
     ):
