@@ -15,7 +15,7 @@ from .opening import LOCK, Table, opened
 from .sources import FILE_BITS, Sheet, TextSheet, refused
 
 
-class Files(Sheet):
+class SheetOfFiles(Sheet):
     """Several files of one table, in order of their names. The line of a row has the place of its file above
     FILE_BITS."""
 
@@ -92,7 +92,7 @@ def open_table(
                 faults.append(sheet.fault_of(what))
     if faults:
         raise RefusedFaults(faults)
-    sheet = sheets[0] if len(sheets) == 1 else Files(called(table), sheets)
+    sheet = sheets[0] if len(sheets) == 1 else SheetOfFiles(called(table), sheets)
     sheet.locks = locks
     return sheet
 
