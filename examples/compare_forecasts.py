@@ -48,7 +48,8 @@ def cost_of(
         backlog=master["backlog"],
         today=(int(master["s"]), int(master["S"])),
     )
-    return scenario.long_run(policies, keys=16).frame["cost"]
+    frame = scenario.long_run(policies, keys=16).frame
+    return frame.loc[["today", *policies], "cost"]
 
 
 def main() -> pd.DataFrame:
