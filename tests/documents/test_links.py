@@ -106,7 +106,7 @@ def test_readme_fits_three_screens() -> None:
 
 
 def test_words_of_the_guide() -> None:
-    """The guide has at most 4,850 words, and its first sections at most 400 each."""
+    """The guide has at most 3,500 words, and its first sections at most 400 each."""
     text = text_of("docs/GUIDE.md")
     for heading in (
         "Monday morning",
@@ -121,7 +121,7 @@ def test_words_of_the_guide() -> None:
             rf"^## {heading}\n.*?(?=^## )", text, re.MULTILINE | re.DOTALL
         )
         assert len(section.split()) <= 400
-    assert words_of("docs/GUIDE.md") <= 4_850
+    assert words_of("docs/GUIDE.md") <= 3_500
 
 
 def packed() -> tuple[str, ...]:
