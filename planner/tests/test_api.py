@@ -348,7 +348,7 @@ def test_items_and_curve_of_a_plan(
     assert run_saving == pytest.approx(row.run_saving)
     assert "<html" in plan.item("K-102").page
     drawn = Mock()
-    monkeypatch.setattr("crnplan.crnsim.pictures.trajectories_picture", drawn)
+    monkeypatch.setattr("crnplan.planned.trajectories_picture", drawn)
     assert plan.item("K-102").plot() is drawn.return_value
     policies, runs, initial = drawn.call_args.args
     assert (len(policies), len(runs), initial) == (2, 2, 7)

@@ -179,7 +179,7 @@ def test_representations(results: Mapping[str, Result], path: Path) -> None:
     assert repr(item) == (
         f"PlannedItem(I-000: s {row.s}, S {row.S}, costs {row.cost:.2f} a week)"
     )
-    assert repr(results["compare"]) == f"Figures({len(item.frame)} rows)"
+    assert repr(results["compare"]) == f"ItemFigures({len(item.frame)} rows)"
     assert repr(results["report"].table).startswith(
         f"DataTable({len(results['report'].frame)} rows of policy, s, S, total, "
     )
