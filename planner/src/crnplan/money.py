@@ -93,6 +93,7 @@ class Costs:
 def exact(value: Any) -> Fraction | None:
     """Returns a number exactly; a float is what its shortest spelling says. None if it is no finite number, or is beyond
     the range of floats, where an exact number may not be computed in any time."""
+    # Python takes True for 1.
     if isinstance(value, bool):
         return None
     text = value if isinstance(value, (int, Fraction)) else str(value)

@@ -33,7 +33,7 @@ from ..vocabulary import Word
 for _threads in ("OMP_NUM_THREADS", "OPENBLAS_NUM_THREADS"):
     os.environ.setdefault(_threads, "1")
 
-INTERRUPTED = 130
+INTERRUPTED = 130  # as shells have it: 128 and the number of the signal
 STREAMS = "stdin", "stdout", "stderr"  # in the order of their numbers
 # The subcommands: the module of each, its help, and its options in order.
 COMMANDS: dict[str, dict[str, Any]] = tomllib.loads(
@@ -176,6 +176,7 @@ def main() -> None:
                 result: Any = group.main(
                     prog_name="crnplan", standalone_mode=False, obj=spelling
                 )
+                # What is still to be written may fail: here, where it is said, and not when Python ends.
                 print(end="", flush=True)
             status = result if isinstance(result, int) else 0
         except click.ClickException as refusal:

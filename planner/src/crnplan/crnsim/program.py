@@ -211,6 +211,7 @@ def run_program(
     Its streams are files in memory: pipes would wake both processes in turn.
     """
     with contextlib.ExitStack() as stack:
+        # In files in memory: a pipe that nobody reads meanwhile would fill, and stop the program.
         given, output, errors = (
             stack.enter_context(open(os.memfd_create(name), "w+b", 0))
             for name in STREAMS
@@ -236,6 +237,7 @@ def run_program(
 def _check_status(program: Path, status: int, said: str) -> None:
     """Raises ProgramError, with what the program has said, if its status is not 0."""
     line = "; ".join(said.splitlines()) or f"no output, status {status}"
+    # Below 0 it is the number of a signal that has ended the program.
     if status < 0 or status in FAILURES:
         raise ProgramFailed(
             f"{program}: {line}",

@@ -133,6 +133,7 @@ class Items:
 
 def grid(low: float, high: float) -> Floats:
     """Returns prices that cut the range from one to another into many stretches, each with the price at its end."""
+    # A stretch has no step at its lower end: so the first one has those at `low`.
     prices: Floats = np.unique([np.nextafter(low, 0), *np.geomspace(low, high, CUTS)])
     return prices
 
@@ -209,6 +210,7 @@ class Ladder:
             )
         )
         prices, owner, changes = [np.concatenate(part, axis=-1) for part in parts]
+        # Parts are in order of their items: steps of one price stay so.
         order = np.argsort(prices, kind="stable")
         return Steps(prices[order], owner[order], changes[:, order])
 
@@ -307,6 +309,7 @@ class Ladder:
         allowed = math.floor((1 - fill + NEAR) * self.items.asked)
         if self.end[UNMET] > allowed:
             return None
+        # Figures are whole units: more than allowed is at least one unit more.
         border = self.crossing(UNMET, -1, -allowed - 1, self.whole)
         if border is None:
             return self.choice(0.0, 0, self.start)

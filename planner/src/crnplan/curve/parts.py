@@ -197,6 +197,7 @@ class Hulls:
         owner = rows.owner[kept]
         prices = slopes(owner, cost[kept], unmet[kept])
         below = np.flatnonzero(np.isfinite(prices))
+        # Of one price, by item: `before` searches so.
         below = below[np.lexsort((below, prices[below]))]
         return cls(
             np.flatnonzero(np.append(True, owner[1:] != owner[:-1])),
@@ -224,6 +225,7 @@ class Hulls:
 def measured(part: CurvePart) -> tuple[int, Floats, Floats]:
     """Returns how many items there are, the greatest of each figure, and the greatest extra costs of orders and stock."""
     most = np.maximum(part.rows.figures.max(axis=1), part.now.max(axis=(0, 2)))
+    # All demand is added up in this unit too, and dearer costs in that of costs.
     most[UNMET] = max(most[UNMET], part.demand.max())
     most[COST] = max(most[COST], part.rows.variant_costs().max())
     return len(part.names), most, part.rows.extra.max(axis=(0, 1))
@@ -271,6 +273,7 @@ def stretches_of(
     most = np.append(-np.inf, hulls.prices)[ends[1:]]
     start = in_units(hulls.figures[:, hulls.start], units).sum(axis=1)
     sums = np.diff(before[:, ends], axis=1)
+    # Parts are joined by the greatest: with its sign turned the least one is that too.
     return np.diff(ends), sums, start, np.array([-least, most])
 
 

@@ -175,6 +175,7 @@ class CurvePast:
             each_answer(
                 self.folder.store(POINTS),
                 Offer,
+                # Questions are asked for several times: a copy is a list of them each time.
                 [(it, planned.read.digest(it, common)) for it in drawn.names].copy,
                 planned.read.item,
                 (tried_of, planned.settings, planned.planned.prior, cases),

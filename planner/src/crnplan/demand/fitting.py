@@ -93,6 +93,7 @@ def share_of(sample: Sample, base: Floats) -> float:
     """
     chances = np.zeros(max(len(base), sample.most + 1))
     chances[: len(base)] = base
+    # A single value without a chance would rule the law out, whatever else was seen.
     seen = np.maximum(chances[sample.values], 1e-9)
     periods = sample.size * PERIODS
     likelihood = special.gammaln(periods) - special.gammaln(periods + sample.size)

@@ -46,6 +46,7 @@ def smoothed(demands: Sequence[int]) -> Iterator[tuple[float, float]]:
 
 def smoothed_means(counts: Sequence[int]) -> Floats:
     """Returns the mean that is forecast for each period, and for the one after the last."""
+    # The 0 stands for the period after the last: it is forecast, and not counted.
     return np.array([mean for mean, _ in smoothed([*counts, 0])])
 
 
@@ -96,6 +97,7 @@ def weight_of(items: Sequence[BlockSums]) -> float:
     )
     if (
         slope <= 0
+        # The error is 0 if all blocks agree.
         or stdtr(blocks - 1, -slope / max(square, 1e-12) ** 0.5) > FALSE_ALARMS
     ):
         return 0.0

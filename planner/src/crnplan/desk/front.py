@@ -191,6 +191,7 @@ class Front:
         with self.lock:
             turn = self.turns.setdefault(what, threading.Lock())
         with turn:
+            # Another thread may have made it while this one waited for its turn.
             made = self.recalled(what, of)
             if made is None:
                 made = make()

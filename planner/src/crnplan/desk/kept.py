@@ -251,6 +251,7 @@ class Desk:
         read_config(part)
         self.folder.claim(CONFIG)
         with self.changing() as state:
+            # It takes its place once the state is kept: both change, or neither.
             state.moves[str(part.relative_to(self.path))] = CONFIG
             state.changed += 1
 

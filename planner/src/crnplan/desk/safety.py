@@ -124,6 +124,7 @@ class JudgedParser(HTTPRequestParser):  # type: ignore[misc]
             self.command, "http", None, "", self.path, b"", Headers(words), None
         )
         if self.body_rcv is not None and not self.judge.admits(head):
+            # waitress asks the error of a request for the answer: see `to_response`.
             self.error, self.body_rcv = self, None
             self.content_length, self.expect_continue = 0, False
 

@@ -123,6 +123,7 @@ def rooms_in(room: Path) -> Iterator[None]:
 def keep_private(folder: Folder, name: str, text: str) -> None:
     """Keeps a text where its owner alone reads it."""
     place = folder.path / name
+    # An old file would keep its mode, and may be open to others.
     place.unlink(missing_ok=True)
     with open(
         place, "x", opener=lambda name, flags: os.open(name, flags, 0o600)
@@ -178,6 +179,7 @@ def server_of(front: Front, port: int) -> tuple[Any, str]:
         ident=None,
     )
     server.channel_class = channels_of(RequestJudge(front.secret, hosts))
+    # Which port is free is known only now.
     hosts |= {f"{name}:{server.effective_port}" for name in (LOCAL, "localhost")}
     return server, f"http://{LOCAL}:{server.effective_port}/enter/{front.secret.text}"
 
@@ -200,6 +202,7 @@ def serve(
         front = Front(Desk(folder), Secret(), program)
         stack.enter_context(contextlib.closing(front))
         server, address = server_of(front, port)
+        # The page that closes the desk, and a system that shuts down, end it as an interrupt does.
         signal.signal(signal.SIGTERM, signal.default_int_handler)
         stack.callback(server.close)
         stack.callback(heed_interrupt)

@@ -47,11 +47,13 @@ class DeskWork:
         self.is_heeding = False
         self._end = end
         self.process = subprocess.Popen(
+            # With -P no module in the folder where the desk was opened is taken for another one.
             [sys.executable, "-P", "-m", __name__],
             stdin=subprocess.PIPE,
             stdout=subprocess.PIPE,
             stderr=subprocess.DEVNULL,
             env={**os.environ, "TMPDIR": str(room)},
+            # An interrupt of a terminal is for the desk alone, which then stops the process.
             start_new_session=True,
             text=True,
         )

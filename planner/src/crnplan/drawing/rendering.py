@@ -35,6 +35,7 @@ def number(value: float, digits: int = 0) -> str:
     """Returns a number with separators of thousands and a minus sign; - if there is none."""
     if math.isnan(value):
         return "-"
+    # So that 0 has no sign: -0.0 + 0.0 is 0.0.
     known = round(value, digits) + 0.0
     return f"{known:,.{digits}f}".replace("-", MINUS)
 

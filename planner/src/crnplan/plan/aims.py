@@ -75,6 +75,7 @@ class Tried:
         for trial in trials:
             periods += trial.periods
         for column in zip(*(trial.unmet for trial in trials)):
+            # Rounded once: the order of the trials does not matter.
             shares.append(math.fsum(column) / periods)
         return cls(len(trials), periods, tuple(shares))
 

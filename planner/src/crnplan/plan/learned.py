@@ -53,6 +53,7 @@ def drawn_of_groups(pairs: Iterable[tuple[str, str]], most: int) -> list[str]:
     good as at random. Pairs have a name and its group."""
     drawn = defaultdict[str, list[tuple[int, str]]](list)
     for name, group in pairs:
+        # A heap drops its least entry: with its sign turned, that is the greatest digest.
         entry = -int(sha256(name), 16), name
         if len(drawn[group]) < most:
             heapq.heappush(drawn[group], entry)
@@ -77,6 +78,7 @@ def learners(read: Catalogued, by_class: bool) -> Iterator[Item]:
         groups = Counter(group for _, group in teaching(read, by_class))
         most = MOST_OF_CLASSES
         if groups.total() > MOST_OF_CLASSES:
+            # A class of more than MOST_PULLED has a prior of its own, and is to keep it.
             most = max(MOST_PULLED + 1, MOST_OF_CLASSES // len(groups))
     for item in map(read.item, drawn_of_groups(teaching(read, by_class), most)):
         if item and item.box == 1 and item.known.counts:

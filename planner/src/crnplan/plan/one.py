@@ -361,6 +361,7 @@ def or_fault(
     except Refused as why:
         what, advice = worded(why.what), worded(why.advice)
         return Remark("refused", {"what": what, "advice": advice})
+    # What fails with one item does not keep the others from their plans.
     except (ArithmeticError, ValueError, LookupError, MemoryError) as why:
         return Remark("failed", {"kind": type(why).__name__, "what": str(why)})
 
@@ -396,6 +397,7 @@ def planned(
     question, months = question_of(item, settings, prior, first), list[PlannedMonth]()
     if question.season is None:
         return plan_one(question, program)
+    # Levels that are the same in each month are there once.
     earlier = itertools.chain(before[1:], itertools.repeat(first))
     for stretch in question.season.year:
         asked = question.month(stretch, next(earlier)) if months else question

@@ -44,6 +44,7 @@ MORE = 24  # of these, above the one by theory, are tried on the past
 DIGITS = 4  # of a price
 # What may be left unmet of each item, times what may be of all together: for the one fill rate with the same stock.
 TIMES = (8.0, 4.0, 2.0, 1.4, 1.0, 0.7)
+# Eight times what may be left unmet may be more than all.
 MOST_UNMET = 0.9
 
 

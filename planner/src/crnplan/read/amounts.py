@@ -133,6 +133,7 @@ class ReadAmount(NamedTuple):
         )
 
 
+# Each text is asked for twice: for the sign of its column, and when it is read.
 @functools.lru_cache(1 << 14)
 def amounts_of(text: str) -> Mapping[str, ReadAmount]:
     """Returns the amounts that a text may be, by decimal sign. One that needs no decimal sign is the same by both."""
@@ -290,6 +291,7 @@ class AmountReader(ColumnReader[ReadAmount]):
 
     def amount(self, cell: Cell) -> ReadAmount:
         """Returns the amount of a cell that is not empty. Raises Unreadable."""
+        # Most amounts are plain digits, which need no pattern.
         if isinstance(cell, str) and cell.isascii() and cell.isdecimal():
             if len(cell) <= MOST_LETTERS:
                 return ReadAmount(Fraction(int(cell)))

@@ -32,7 +32,7 @@ from .sources import Row, Sheet, TextSheet, readable
 Seen = dict[str, dict[Cell, int]]  # how many good rows have each value, by role
 DATES = ("date", "ordered", "received", "due", "since", "from", "to", "period")
 ROWS_AT_ONCE = 200_000  # of those that are read one by one
-LOOK_BYTES = 1 << 20
+LOOK_BYTES = 1 << 20  # bytes in which the end of a line is looked for at a time
 # Encodings in which no other letter has the byte of a line's end.
 CUT = re.compile("utf-8(-sig)?|ascii|iso8859-[0-9]+|cp12[0-9]+|gb18030|gbk|gb2312")
 MIX = np.uint64(0x9E3779B97F4A7C15)  # odd, so that no two hashes are mixed to the same
@@ -83,6 +83,7 @@ class CodedColumn(NamedTuple):
         """Returns a hash of 64 bits of each row's cell, the same in all processes."""
         data = bytearray()
         for cell in self.distinct:
+            # So a number never counts as the text that spells it.
             text = cell if isinstance(cell, str) else f"\0{cell!r}"
             code = text.encode("utf-8", "surrogatepass")
             data += hashlib.blake2b(code, digest_size=8).digest()
@@ -238,6 +239,7 @@ def plain_cells(sheet: TextSheet, data: bytes, skip: int) -> Cells | None:
     ends = ends[skip:]
     if (
         not len(ends)
+        # pandas would leave these bytes out.
         or data.startswith(codecs.BOM_UTF8, starts[0])
         or (ends - starts).max() > csv.field_size_limit()
     ):
@@ -312,6 +314,7 @@ def write_block(block: Block, path: Path, parts: int) -> Filed:
     """Writes a block to a new file, by part of the items."""
     codes, names = block.columns["item"]
     texts = (str(name).encode("utf-8", "surrogatepass") for name in names)
+    # Python's own hash differs by process, and all tables have an item in the same part.
     hashes = [zlib.crc32(text) % parts for text in texts]
     part_of = np.array(hashes, np.uint8)[codes]
     order = np.argsort(part_of, kind="stable")
@@ -410,6 +413,7 @@ def read_range(
     blocks = list[Filed]()
     if part.start:
         sheet.line = 0
+        # Only the first range has a heading, and a byte order mark that is no letter.
         sheet.encoding = sheet.encoding.removesuffix("-sig")
     try:
         for number, block in enumerate(range_blocks(sheet, sizes, part)):
@@ -433,6 +437,7 @@ def closed_ranges(
         count = 1
         read = done[place]
         while read.is_open:
+            # By doubling, a long cell in quotes is read again a few times, not once for each range.
             count = min(2 * count, len(ranges) - place)
             read = again(range(ranges[place].start, ranges[place + count - 1].stop))
         yield read

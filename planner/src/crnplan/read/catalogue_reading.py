@@ -98,6 +98,7 @@ class Catalogued(Opened):
 
     def rejects(self, more: Iterable[Reject] = ()) -> Iterator[Reject]:
         """Yields what was left out or named, with more of it: by file, line, item and column."""
+        # Rows to sort may be many: SQLite keeps a base without a name on disk if it grows.
         with reading(self.path), contextlib.closing(sqlite3.connect("")) as base:
             base.execute(f"CREATE TABLE rejects ({quoted(REJECT.names)})")
             base.executemany(ADD_REJECT, self.base.execute("SELECT * FROM rejects"))

@@ -62,6 +62,7 @@ LEVELS = {"s": "S", "S": "s", "override_s": "override_S", "override_S": "overrid
 MONEY = ("setup", "holding", "backlog", "price", "supplier_min")
 # Roles that a column has by its whole name alone: others that begin so say something else, as a supplier's lead time or the price in a promotion.
 WHOLE_NAMES = {"supplier", "promotion"}
+# The year is that of the Julian calendar, and the month its twelfth.
 DAYS = {
     "day": Fraction(1),
     "week": Fraction(7),
@@ -74,7 +75,7 @@ ROLE_UNITS = {role: kind for kind, its in COUNTED.items() for role in its["roles
 PERIODS, NAMELESS = HEADINGS["periods"]["date"], HEADINGS["periods"]["nameless"]
 WANTED = COUNTED["share"]["roles"]  # shares of demand, or of periods
 TIMES = ("length", "span")  # the kinds of roles that count times
-MOST_NAME = 100
+MOST_NAME = 100  # letters of the name of a column in a message
 # Of more columns than these, the first ones are named.
 MOST_LISTED, FIRST_LISTED = 12, 5
 NO_ROW = Remark("no row")
@@ -151,6 +152,7 @@ def periods_of(lead: Fraction) -> tuple[int, ...]:
     """Returns the lead times in whole periods of an order that takes so many periods, and may be placed at any time of
     one: as those of dated orders, of which an order takes at least 1."""
     low = int(lead)
+    # In sevenths, as the days of a week: so at most 7 lead times stand for one.
     rest = (lead - low).limit_denominator(7)
     leads = [max(1, low)] * (rest.denominator - rest.numerator)
     leads += [low + 1] * rest.numerator
@@ -201,6 +203,7 @@ class Finder:
         words = plain.split()
         for count in range(len(words) - 1, 0, -1):
             name = " ".join(words[:count])
+            # s and S are whole names alone: too many others begin with such a letter.
             if len(name) > 1 and name in self.role_of:
                 begun = self.role_of[name]
                 unknown = self._unknown(begun, words, count)

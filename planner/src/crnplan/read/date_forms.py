@@ -68,6 +68,7 @@ TIME = re.compile(
 )
 # Days as a spreadsheet numbers them from its day 0 on, perhaps with a part of a day. 20,000 is in 1954, 60,000 in 2064.
 SERIAL = re.compile("(?P<days>[2-5][0-9]{4}|60000)(?:[.,][0-9]+)?")
+# Spreadsheets count a 29 February 1900, which never was: so day 0 of all later days is 30 December.
 DAY_0 = datetime.date(1899, 12, 30)
 
 
@@ -122,6 +123,7 @@ def without_time(text: str) -> str:
     return TIME.sub("", text)
 
 
+# Each text is asked for when its column is looked at, and again when it is read.
 @functools.lru_cache(1 << 12)
 def written(text: str) -> Written | None:
     """Returns the parts of a date, perhaps with a time of day; None if it is in no usual form."""

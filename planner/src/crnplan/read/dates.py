@@ -37,8 +37,9 @@ from .month_names import months_of, plain_month
 from .turned_dates import Day as Day, interchanged, turned
 
 EVERY = ("day", "week", "month")
-EPOCH = Day(1970, 1, 1).toordinal()
+EPOCH = Day(1970, 1, 1).toordinal()  # from which numpy counts days
 FIRST_YEAR, LAST_YEAR = 1980, 2199
+# In two centuries, and on no day or month that stands for one that a pattern lacks.
 PROBES = (Day(2026, 3, 31), Day(1999, 12, 4))
 # The pattern that stands for days as a spreadsheet numbers them.
 EXCEL = "excel"
@@ -377,6 +378,7 @@ def periods_of_days(days: Numbers, every: str) -> Numbers:
             "datetime64[M]"
         ).astype(np.int64) + 12 * 1970
         return months
+    # Day 1 of the calendar was a Monday.
     return days if every == "day" else (days - 1) // 7
 
 

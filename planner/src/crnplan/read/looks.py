@@ -24,7 +24,7 @@ from .law_forms import LAWS
 from .opening import opened
 from .sources import SourceColumn, Sheet
 
-SEEN_ROWS = 5
+SEEN_ROWS = 5  # below the heading, as a planner sees them who is asked what a file is
 ONE_LIKELY = "likely encodings 1"  # the code of what is said of bytes in such a one
 # The roles that masters need, and that a planner may state for all items in place of a column.
 STATED = {"setup", "holding"}

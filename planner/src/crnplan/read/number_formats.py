@@ -154,6 +154,7 @@ def sections_of(code: str) -> list[Section]:
             parts.append([])
         else:
             parts[-1].append(part)
+    # The fourth section is for texts.
     return [Section(own, not place) for place, own in enumerate(parts[:3])]
 
 

@@ -24,7 +24,7 @@ Named = Union[str, Path, tuple[str, ...]]
 Table = Union[Named, "pd.DataFrame", "pd.Series", Columns, Sequence[Columns]]
 # What a gzipped file may unpack to, and a pipe may give: a million items with 140 rows each have some 4 GB.
 MOST_UNPACKED = 8_000_000_000
-PIECE = 1 << 20
+PIECE = 1 << 20  # bytes that are copied at a time
 # The first bytes of files that are no text, with what is wrong if their name says otherwise.
 PACKED = {
     OLD: "old workbook",

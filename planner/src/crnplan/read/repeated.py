@@ -130,6 +130,7 @@ def total_rows(
         totals[row] = set(cells.values()) <= {""}
         for role, total in sums.items():
             number = readers[role].known(cells[role])
+            # The sum of all rows has the total itself too.
             if number and 2 * number == total:
                 totals[row] = True
     return totals

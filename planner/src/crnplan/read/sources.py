@@ -31,7 +31,9 @@ from .encodings import likely_encodings
 Row = tuple[int, Sequence[Cell]]
 TextRow = tuple[int, list[str]]
 RoleOf = Callable[[str], str | None]
+# The bytes in which a heading and a delimiter are found, and the letters that a line may have.
 HEAD_BYTES, MOST_LETTERS = 1_000_000, 2_000_000
+# Rows by which these are judged, rows among which the heading is, and rows below it that messages may show.
 SAMPLE_ROWS, TITLE_ROWS, SHOWN_ROWS = 1_000, 50, 3
 # What an empty cell of demand means, if it is stated: a period whose demand is not known, or none.
 EMPTY = UNKNOWN, NONE = "unknown", "none"
@@ -423,6 +425,7 @@ class TextSheet(Sheet):
         if not is_all and not re.search(b"[\r\n]", data):
             raise refused("long first line", name, 1, most=HEAD_BYTES)
         if not is_all and not self.encoding.startswith("utf-16"):
+            # The last letter may be cut: whole lines have whole letters.
             data = data[: data.rfind(b"\n") + 1] or data
         try:
             self.text = codecs.getincrementaldecoder(self.encoding)(ESCAPES).decode(
@@ -438,6 +441,7 @@ class TextSheet(Sheet):
             self.text = data.decode(self.encoding, "replace")
         before, zero, _ = self.text.partition("\0")
         if zero:
+            # Of a Latin letter in UTF-16 one byte is 0: the first one, if the high byte comes first.
             is_big = data[::2].count(0) > data[1::2].count(0)
             encoding = "utf-16-be" if is_big else "utf-16-le"
             raise refused("NUL", name, *place_behind(before), encoding=encoding)

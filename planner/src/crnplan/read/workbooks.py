@@ -47,7 +47,7 @@ MOST_BYTES, MOST_TEXT_BYTES, MOST_PART_BYTES, MOST_ROW_BYTES = (
     8_000_000,
 )
 MOST_TEXTS, MOST_BLANKS = 5_000_000, 50_000_000  # shared texts, and empty cells
-PIECE = 1 << 16
+PIECE = 1 << 16  # bytes that are unpacked at a time
 MOST_KNOWN = 100_000  # cells that are read once
 NAME = "{http://schemas.openxmlformats.org/spreadsheetml/2006/main}"
 CELL, ROW, DATA, VALUE, FORMULA, INLINE, SHARED, TEXT, RUN = (
@@ -119,6 +119,7 @@ def texts_in(path: Path, part: str) -> Iterator[str]:
     with zipfile.ZipFile(path) as archive, archive.open(part) as file:
         for element in elements(file, str(path)):
             if element.tag == SHARED:
+                # Excel writes _x005F_x000D_ for a text _x000D_, which alone would be a carriage return.
                 yield text_in(element).replace("x005F_", "")
 
 
@@ -281,6 +282,7 @@ class BookSheet(Sheet):
     ) -> None:
         """Keeps the place of a formula without its value, if the column is used. One whose text is empty has one."""
         formula = element.find(FORMULA)
+        # Programs that compute nothing leave no value, or 0 and a mark that Excel is to compute all.
         is_computed = (
             kind == "str" or bool(text) and (text != "0" or not self.book.is_uncomputed)
         )

@@ -27,7 +27,7 @@ if TYPE_CHECKING:
     from xlsxwriter.worksheet import Worksheet
 
 MOST_ROWS = 1_048_576  # of a sheet, with its heading
-CREATED = datetime.datetime(2000, 1, 1)
+CREATED = datetime.datetime(2000, 1, 1)  # fixed: the same tables make the same bytes
 LEAST_WIDTH, MOST_WIDTH, MEANING_WIDTH, ROOM = (
     9,
     50,
@@ -36,7 +36,7 @@ LEAST_WIDTH, MOST_WIDTH, MEANING_WIDTH, ROOM = (
 )  # of columns, in letters, and of a currency
 GRID = {"visible": True, "line": {"color": "#d9d9d9"}}
 MOST_ON_PAGE = 12  # columns of a sheet that is as wide as a printed page
-A4 = 9
+A4 = 9  # the number that Excel has for this paper
 CURVE, LINES = "Curve", "Orders by supplier"
 # What no name of a sheet may have: signs, which are wide ones in some languages, and what XML or a reader can't show.
 UNNAMED = re.compile(

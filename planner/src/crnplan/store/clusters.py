@@ -88,6 +88,7 @@ class Cluster(Workers):
         known = [
             answer["crnsim"] for answer in answers.values() if type(answer) is dict
         ]
+        # This machine need not have crnsim: then all workers must have the same one.
         if known and not self.own["crnsim"]:
             self.own["crnsim"] = known[0]
         for address, answer in answers.items():

@@ -95,6 +95,7 @@ class Workers:
                     return
                 if done := run.next_done():
                     yield done.key, done.result
+                    # Else a result stays in memory while the next one is waited for.
                     del done
         finally:
             run.under_way.clear()  # A cluster drops what nobody waits for.
@@ -179,6 +180,7 @@ class _Run(Generic[Key]):
         self.due = now + self.workers.look_seconds
         silent = {*self.workers.silent(under_way)}
         for batch in {under_way[future] for future in self.workers.begun(under_way)}:
+            # Its time begins when a worker is first seen to have it: before, it waits.
             batch.since = batch.since or now
             is_late = now - batch.since >= LIMIT_SECONDS
             if not is_late and not silent.issuperset(batch.futures):
@@ -237,6 +239,7 @@ class Processes(Workers):
         self.threads.shutdown(wait=False, cancel_futures=True)
         end_with_programs([worker.process for worker in [*self.workers]])
         for _ in range(self.most):
+            # A thread may wait for an idle process.
             self.idle.put(None)
         self.threads.shutdown()
 

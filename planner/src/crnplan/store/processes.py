@@ -23,6 +23,7 @@ WATCH_SECONDS = 0.5  # between two looks whether the process at the other end st
 JOIN_SECONDS = (
     1.0  # that a killed process has to end: one that waits for a disk may not
 )
+# A forked process has at once what this one has loaded and compiled.
 FORK = multiprocessing.get_context("fork")
 # One process begins at a time. Two that begin together would each keep an end of the other's pipe open.
 _begin_alone = threading.Lock()
@@ -120,6 +121,7 @@ def serve(pipe: Any, parent: int) -> None:
     not handed on to the programs that it runs."""
     signal.signal(signal.SIGINT, lambda number, frame: None)
     signal.signal(signal.SIGTERM, signal.SIG_DFL)
+    # The descriptor is the parent's, which no signal of this process is to wake.
     signal.set_wakeup_fd(-1)
 
     def watch() -> None:

@@ -60,6 +60,7 @@ def _tuples(values: list[Any]) -> tuple[Any, ...]:
 def _tuple_of(text: str) -> tuple[Any, ...]:
     """Returns the tuple of a text of JSON. Most are of numbers alone."""
     value, _ = LIST.raw_decode(text)
+    # A bracket behind the first sign begins a list inside.
     return _tuples(value) if text.rfind("[") else tuple(value)
 
 
@@ -100,6 +101,7 @@ KINDS: dict[Any, tuple[Callable[[Any], StoredCell], Callable[[Any], Any]]] = {
     str: (str, str),
     bool: (int, bool),
     bytes: (bytes, bytes),
+    # A text of a fraction is slowly read, and many items have the same costs.
     Fraction: (str, functools.lru_cache(1 << 12)(Fraction)),
     tuple: (json.JSONEncoder(separators=(",", ":")).encode, _tuple_of),
     np.ndarray: (_array_bytes, _array_of),
@@ -295,6 +297,7 @@ class Store(Opened, Generic[Row]):
         with reading(self.named):
             if not is_read and not is_known:
                 self.base.executescript("PRAGMA journal_mode = WAL;" + self._tables())
+            # If power is lost, the last answers may be, but with this journal the file stays whole.
             self.base.execute("PRAGMA synchronous = NORMAL")
             names = [
                 column[1] for column in self.base.execute("PRAGMA table_info(answers)")

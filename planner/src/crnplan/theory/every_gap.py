@@ -79,6 +79,7 @@ def compare_gap(
             + costs[1, case] * points[1, place]
             + costs[2, case] * points[2, place]
         )
+        # Of gaps that cost the same but for rounding the first stays.
         if cost < best[case] * (1 - NEAR / 10):
             best[case] = cost
             found[0, case] = gap
@@ -361,6 +362,7 @@ class Cases:
                 self.best,
                 self.found,
             )
+            # So the best gap is found again among all gaps, or an earlier one that costs as much.
             self.best *= 1 + NEAR
 
     def search(self) -> None:

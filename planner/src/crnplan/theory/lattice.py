@@ -113,6 +113,7 @@ def check_net(demand: float, back: float) -> None:
         raise NoTheory(
             "no item is ever asked for; give a demand above 0 a weight", "demand"
         )
+    # By rounding, means that are equal may differ a little.
     if demand - back <= 1e-9 * demand:
         raise NoTheory(
             f"on average {back:g} items come back and {demand:g} are asked for in a period, so there is "

@@ -141,6 +141,7 @@ class LongRun(Figured):
         other.holding = costs.holding
         other.backlog = costs.backlog
         other.most = most
+        # Figures that are known have the former costs, and so has what `free` keeps.
         other.figured = {}
         other.__dict__.pop("free", None)
         return other

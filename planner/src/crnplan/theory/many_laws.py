@@ -276,6 +276,7 @@ class Promises:
         """Returns how many laws, in the order of the least S that they allow, come before the one that decides."""
         return max(
             0,
+            # By rounding, 0.55 of 100 laws is more than 55.
             math.ceil(self.confidence * (len(self.theories) + self.lacking) - 1e-9) - 1,
         )
 

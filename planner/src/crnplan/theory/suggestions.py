@@ -88,8 +88,10 @@ class Depths:
         for fall in self.falls:
             shift = fall
             if depths >> fall & 1:
+                # It is a sum of smaller falls, so it adds no depth.
                 shift = gap + 1
             while shift <= gap:
+                # Each turn doubles how many times this fall may be in a sum.
                 depths |= depths << shift & all_up_to
                 shift *= 2
         return depths.bit_length() - 1

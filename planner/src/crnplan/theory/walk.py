@@ -248,6 +248,7 @@ def decay_of(net: LatticeLaw) -> float:
     while excess(high) < 0:
         high *= 2
     low = high / 2
+    # Both ends differ by a factor of 2: some 52 halvings bring them to neighbouring doubles.
     for _ in range(60):
         middle = (low + high) / 2
         low, high = (middle, high) if excess(middle) < 0 else (low, middle)
@@ -266,7 +267,9 @@ def factors_of(net: LatticeLaw) -> tuple[Floats, Floats]:
         falls[0] = 0.0
         return np.array([1 / (1 - stay)]), falls / (1 - stay)
     decay = decay_of(net)
+    # Halfway to the next zero of the transform; and roundings grow by e^10 at most below.
     tilt = min(decay / 2, 10 / net.high)
+    # So wide that what wraps round in it is below any rounding.
     room = 1 << math.ceil(
         math.log2(
             max(2 * DIGITS / tilt, 2 * DIGITS / (decay - tilt), 4 * len(net.chances))
@@ -286,6 +289,7 @@ def factors_of(net: LatticeLaw) -> tuple[Floats, Floats]:
     falls[0] = 0.0
     visits = np.fft.ifft(np.exp(-np.fft.fft(up))).real[-np.arange(room // 2) % room]
     visits = np.clip(visits * np.exp(-tilt * np.arange(room // 2)), 0, None)
+    # What is beyond is what transforms have rounded.
     kept = np.flatnonzero(visits > 1e-13 * visits.sum())[-1] + 1
     falls = np.clip(falls, 0, None)
     return visits[:kept], falls / falls.sum()
@@ -302,6 +306,7 @@ def renewal_sequence(lows: Floats, falls: Floats, count: int) -> Floats:
     turned = falls[:0:-1].copy()
     for place in range(len(lows), count):
         before = longer[max(place - reach, 0) : place]
+        # Chances that are made longer may have been equal before.
         is_due = place >= reach and (place % LOOK_EVERY == 0 or place == len(lows))
         if is_due and before.max() - before.min() <= EQUAL * longer[place - 1]:
             longer[place:] = longer[place - 1]

@@ -37,6 +37,7 @@ SMOOTHED = "smoothed"
 # The aims of a method leave so many times unmet what it aims to leave unmet by itself, or have a price that is so many
 # times lower.
 FACTORS = 5.0, 2.0, 1.0, 1 / 3, 1 / 10
+# Five times what a low aim leaves unmet would be more than all.
 LEAST_AIM, MOST_AIM = 0.1, FILLS[-1]
 # The aims of today's policies move both levels by so many standard deviations of demand until an order is there.
 SHIFTS = -2, -1, 0, 1, 2
