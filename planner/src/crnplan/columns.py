@@ -1,5 +1,7 @@
-"""Reads the columns of tables, which each package declares in its columns.toml: the form, the cell and the meaning of
-each. The forms are in columns.toml here."""
+"""Reads the columns of tables, which each package declares in its columns.toml: their form, cell and meaning.
+
+The forms are in columns.toml here.
+"""
 from __future__ import annotations
 
 import functools

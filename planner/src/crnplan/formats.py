@@ -45,7 +45,6 @@ def status_of(fault: str) -> int:
 
 
 def _key(stated: dict[str, Any]) -> Key:
-    """Returns a key of a scenario, as the table of keys states it."""
     ranges = tuple((low, high) for low, high in stated.get("ranges", ()))
     return Key(stated.get("table", ""), stated["name"], ranges, stated.get("since", 1))
 

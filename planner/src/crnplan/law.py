@@ -141,7 +141,6 @@ class Law:
 
     @classmethod
     def _of_whole(cls, weights: Mapping[int, int]) -> Law:
-        """Makes a law from whole weights by value."""
         kept = sorted(value for value in weights if weights[value])
         if not kept:
             raise Refused(*NO_WEIGHT)

@@ -1,5 +1,4 @@
-"""Declares each word that a user says once: options of commands, keys of files and arguments of calls, as options.toml has
-them."""
+"""Declares the options of commands, the keys of files and the arguments of calls, once each, from options.toml."""
 from __future__ import annotations
 
 import functools

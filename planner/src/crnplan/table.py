@@ -1,5 +1,7 @@
-"""Tables whose columns are declared once, each with how its cell is made: rows, the frame, CSV, JSON, text, HTML and the
-page of formats follow from that."""
+"""Tables whose columns are declared once, each with how its cell is made.
+
+Rows, the frame, CSV, JSON, text, HTML and the page of formats follow from that.
+"""
 from __future__ import annotations
 
 import csv

@@ -236,7 +236,6 @@ def _shift(facts: Facts) -> str:
 
 
 def _part(facts: Facts, name: str) -> str:
-    """Returns when a part of a season is."""
     first, last = facts[f"{name}_first"], facts[f"{name}_last"]
     if facts["unit"] == "weekday":
         return f"on {WEEKDAYS[first - 1]}s"
@@ -343,7 +342,6 @@ def _largest(facts: Facts) -> str:
 
 
 def _effect(name: str, size: float) -> str:
-    """Returns an effect of a size in words."""
     match name:
         case "autocorrelation":
             return f"an autocorrelation of {size:g}"

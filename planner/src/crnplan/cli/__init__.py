@@ -201,7 +201,6 @@ def main() -> None:
 
 
 def _with_help(refusal: click.ClickException) -> str:
-    """Returns what is wrong with the words of a command, and where its help is."""
     message, context = refusal.format_message(), getattr(refusal, "ctx", None)
     if isinstance(refusal, click.NoSuchOption):
         name = context.info_name if context else ""

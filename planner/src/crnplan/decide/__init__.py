@@ -1,1 +1,1 @@
-"""See the modules."""
+"""Decides between policies by the runs of crnsim and by theory, and says how sure that is."""

@@ -164,7 +164,6 @@ class LongRunReport(Result):
         )
 
     def _exactness(self) -> Remark:
-        """Returns how exact theory's figures are."""
         code = "rounded bias"
         if self.bias.theory.exact:
             code = "exact theory" if self.is_exact else "start beside the lattice"
@@ -186,7 +185,6 @@ class LongRunReport(Result):
 
 
 def _without_interval(estimates: Sequence[RunEstimate]) -> Iterator[Remark]:
-    """Yields what must be said of policies without an interval."""
     few, same = list[str](), list[str]()
     for own in estimates[1:]:
         if own.error is None:

@@ -13,7 +13,6 @@ MOST_KEYS = 64  # that a report may be pooled of
 
 
 def _is_of(row: ReportRow, base: ReportRow, replications: int) -> bool:
-    """Returns whether a row can be of a report with this number of replications and this base."""
     if not 1 <= replications <= formats.MOST_REPLICATIONS * MOST_KEYS:
         return False
     periods, of_base = periods_of(row, replications), periods_of(base, replications)

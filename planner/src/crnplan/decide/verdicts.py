@@ -310,7 +310,6 @@ class Decision(Result):
         return "".join(f"\n{line}" for line in lines) + "\n"
 
     def _column_lines(self) -> list[str]:
-        """Returns what the columns mean."""
         if self.runs and self.theory:
             names, theory = self.table.names, sentence(self.theory)
             return [

@@ -1,5 +1,4 @@
-"""Says what was asked for in periods whose sales are cut: an item was out of stock, so that more was asked for than was
-sold, or as much.
+"""Says what was asked for in periods whose sales are cut: at least what was sold, since the item ran out.
 
 A family is fitted by the likelihood of at least the sales of such a period, and of the demand of all others (Nahmias,
 Demand estimation in lost sales inventory systems, 1994; Agrawal and Smith, Estimating negative binomial demand for retail

@@ -1,5 +1,4 @@
-"""Estimates the season of a class of items, or of one of them: an index for each month of the year. Tests whether there
-is one.
+"""Estimates the season of a class or of an item as an index for each month, and tests whether there is one.
 
 The index of a month is the mean of the ratios of its demand to that of its year (Makridakis, Wheelwright and Hyndman,
 Forecasting: Methods and Applications, third edition, 1998, section 3/4), over the items of a class (Withycombe,

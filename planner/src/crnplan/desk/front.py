@@ -62,7 +62,6 @@ class Front:
             self.work = DeskWork(asked, self.desk.folder.room(), self._end)
 
     def _asked(self, begun: Begun) -> dict[str, Any]:
-        """Returns what the process of some work is asked for."""
         desk = self.desk
         tables = desk.tables(PLANNED)
         for kind in ("demand", "items"):
@@ -105,7 +104,6 @@ class Front:
 
     @staticmethod
     def _done(state: Any, begun: Begun) -> None:
-        """Notes what was done."""
         if begun.kind == READING:
             state.read = begun.changed
         if begun.kind == PLANNING:

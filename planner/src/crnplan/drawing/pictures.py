@@ -1,5 +1,7 @@
-"""Draws results as pictures that a notebook shows and a file keeps: those of pages, with their own colours and texts. All
-can be read in grey."""
+"""Draws results as pictures that a notebook shows and a file keeps, with their own colours and texts.
+
+They are those of pages. All can be read in grey.
+"""
 from __future__ import annotations
 
 import re

@@ -1,5 +1,8 @@
-"""What the past of a catalogue says of its plans: at which fill rates they aim to meet the wanted ones, and what those with
-a backlog cost cost beside what theory promises."""
+"""Says by the past of a catalogue at which fill rates its plans aim, and what they cost beside their promise.
+
+Plans of items with a wanted fill rate have an aim. Of those with a backlog cost it says what plans cost beside what
+theory promised.
+"""
 from __future__ import annotations
 
 import itertools

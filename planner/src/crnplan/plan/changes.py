@@ -1,5 +1,4 @@
-"""Says what has changed since an earlier plan of a catalogue: the policy of each item, why, and how the earlier one did
-on the periods since."""
+"""Says what has changed since an earlier plan: the policy of each item, why, and how the earlier one did since."""
 from __future__ import annotations
 
 import dataclasses

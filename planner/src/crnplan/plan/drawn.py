@@ -1,5 +1,6 @@
-"""Draws the items of a plan from which sums over all of them are estimated: those that cost most are taken for certain,
-and some of the others by chance.
+"""Draws the items of a plan from which sums over all of them are estimated.
+
+Those that cost most are taken for certain, and some of the others by chance.
 
 Source: Cochran, Sampling Techniques, 1977, chapters 6 (ratios) and 9A (chances in proportion to size); Ohlsson,
 Sequential Poisson sampling, Journal of Official Statistics 14, 1998, pages 149 to 162.

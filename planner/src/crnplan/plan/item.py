@@ -1,6 +1,9 @@
-"""Plans one item from a history and settings: the same facts, question and answer as in a catalogue. Then it looks
-deeper than the answer: other policies, the doubt about its laws, how the choice moves, the stock in a run, and the
-coming periods from today's stock, on the same random numbers as the answer's own run."""
+"""Plans one item from a history and settings, as in a catalogue, and looks deeper than the answer.
+
+The facts, the question and the answer are those of a catalogue. Beside them are other policies, the doubt about the
+item's laws, how the choice moves, the stock in a run, and the coming periods from today's stock, on the same random
+numbers as the answer's own run.
+"""
 from __future__ import annotations
 
 from collections.abc import Mapping

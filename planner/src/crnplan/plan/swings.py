@@ -1,5 +1,6 @@
-"""Says what the chosen policies of a catalogue would cost and serve if costs, demand or lead times were a fifth off, and
-how much better the best ones would then be.
+"""Says what a catalogue's policies would cost and serve if costs, demand or lead times were a fifth off.
+
+It says too how much better the best ones would then be.
 
 Theory computes it for few items: those that carry four fifths of all costs, as far as these are few, and some that are
 drawn from the others. If the cost of stock or of delay changes, what policies cost is known for all items, and only the

@@ -361,7 +361,6 @@ class _Sorted:
         return None if item.stock is None else OnHand.of(item.stock)
 
     def add(self, item: Item, answer: Answer | Remark) -> None:
-        """Adds an item with its answer, or why it has none."""
         self.items.append(item)
         hand, is_set = self.hand(item), bool(item.override and item.override.levels)
         is_ended = item.past in ENDED and not is_set

@@ -1,5 +1,7 @@
-"""Says how the best policy of an item moves if a cost, a law or the wanted fill rate differs, and what it costs to keep
-another policy. Figures are theory's of the long run, rounded and unproved."""
+"""Says how the best policy of an item moves if a cost, a law or the wanted fill rate differs.
+
+It says too what it costs to keep another policy. Figures are theory's of the long run, rounded and unproved.
+"""
 from __future__ import annotations
 
 import dataclasses

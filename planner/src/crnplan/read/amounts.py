@@ -1,5 +1,6 @@
-"""Reads amounts as people write them: the one parser of numbers, shares, money and times, whatever their role. All cells
-of a column together decide its decimal sign.
+"""Reads amounts as people write them: the one parser of numbers, shares, money and times, whatever their role.
+
+All cells of a column together decide its decimal sign.
 
 A cell that could mean two things is rejected, never guessed: 1,234 is read only if its column has a number such as 0.05
 or 1,234,567, which has one reading alone, or if the sign is stated.

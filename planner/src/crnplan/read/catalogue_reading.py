@@ -1,5 +1,7 @@
-"""Reads a catalogue: two files or three to items that can be planned. Nothing is lost, or it is said what. What was
-read is kept in a SQLite file of a folder, which is there whole or not at all."""
+"""Reads a catalogue: two files or three to items that can be planned. Nothing is lost, or it is said what.
+
+What was read is kept in a SQLite file of a folder, which is there whole or not at all.
+"""
 from __future__ import annotations
 
 import contextlib
@@ -213,7 +215,6 @@ class Writer:
             self.add_rows(ADD_ITEM, heapq.merge(*items, key=itemgetter(0)))
 
     def _items(self, where: str, *values: str) -> Iterator[Item]:
-        """Yields items that were added."""
         rows = self.base.execute(f"SELECT * FROM items WHERE {where}", values)
         return map(ITEM.value, rows)
 

@@ -1,5 +1,7 @@
-"""Says by its name what a column beside a quantity is: a part of an order, a mark of closed lines, or what kind of stock a
-row is."""
+"""Says by its name what a column beside a quantity is: a part of an order, a mark, or a kind of stock.
+
+A mark says which lines are closed.
+"""
 from __future__ import annotations
 
 import re

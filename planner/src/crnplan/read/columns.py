@@ -1,5 +1,6 @@
-"""Finds the columns of a table and their units, by the names that a planner states, else by usual names; and converts
-numbers into the unit in which their role counts.
+"""Finds the columns of a table and their units, and converts numbers into the unit of their role.
+
+Columns are found by the names that a planner states, else by usual names.
 
 A name that is found is said as a guess. Two columns that could both be meant are refused, never chosen between. Days,
 weeks, months and years are of 1, 7, 30.4375 and 365.25 days, so a year has 52.18 weeks.

@@ -1,5 +1,7 @@
-"""Sums what the rows of tables say, by file and by what became of the rows: control totals, to tick off against the
-source. All sums are exact."""
+"""Sums what the rows of tables say into control totals, to tick off against the source.
+
+Totals are by file and by what became of the rows. All sums are exact.
+"""
 from __future__ import annotations
 
 import math
@@ -170,7 +172,6 @@ class _Groups:
         return column.of_rows(numbers, kind), scale
 
     def sums(self, numbers: npt.NDArray[Any], scale: int) -> list[Fraction]:
-        """Returns the sum of numbers in each group."""
         sums = sums_of(self.codes, numbers, self.count)
         return [Fraction(total, scale) for total in sums.tolist()]
 

@@ -1,5 +1,4 @@
-"""Knows the forms in which people write dates, whole weeks and whole months, and splits a text into the parts of its
-date."""
+"""Knows the forms in which people write dates, whole weeks and months, and splits a text into their parts."""
 from __future__ import annotations
 
 import contextlib

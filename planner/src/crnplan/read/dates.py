@@ -1,6 +1,7 @@
-"""Reads the dates of a table, as people write them, and numbers the days, weeks and months that they are in. All dates
-of a table together decide whether the day or the month comes first, and in which language the names of months are. The
-time of day and its zone are read over.
+"""Reads the dates of a table, as people write them, and numbers the days, weeks and months that they are in.
+
+All dates of a table together decide whether the day or the month comes first, and in which language the names of
+months are. The time of day and its zone are read over.
 
 A date that may be two days is rejected with both, never guessed. A whole week or month is read as its first day if the
 periods of the record are weeks or months.
@@ -146,7 +147,6 @@ class DateReader:
             self.has_weeks = self.is_of_weeks = True
 
     def _look_at(self, text: str, parts: Written) -> None:
-        """Looks at a date."""
         # The year may be first in a short date with dashes.
         is_short = parts.sign == "-" and len(parts.year) == 2
         if parts.sign and parts.is_day_first is not None and not is_short:

@@ -1,5 +1,6 @@
-"""Makes laws of demand of what is stated of them: values with chances or weights, a mean and a variance, quantiles, or
-sample paths. Each is a law of whole items.
+"""Makes laws of demand of what is stated of them: values with chances, moments, quantiles or sample paths.
+
+Values may have weights, and moments are a mean and a variance. Each law is of whole items.
 
 A mean and a variance have a law of whole numbers if the variance is at least f (1 - f), where f is what the mean has
 beside whole items. It is Poisson if both are equal, negative binomial if the variance is greater, and else the mixture of

@@ -1,5 +1,7 @@
-"""Says from where the lead times of an item are: from its master, from the receipts of its orders, or from both; and
-whether receipts took as long as stated."""
+"""Says whether the lead times of an item are from its master, from the receipts of its orders, or from both.
+
+It says too whether receipts took as long as stated.
+"""
 from __future__ import annotations
 
 import math

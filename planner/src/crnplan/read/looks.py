@@ -1,5 +1,6 @@
-"""Looks at a file before it is read: as which tables it can be read, by which columns, and what is wrong with it; and states
-what a planner then chooses.
+"""Looks at a file before it is read: which table it may be, by which columns, and what is wrong with it.
+
+It then states what a planner chooses.
 
 Nothing is raised for what is wrong: who looks may then say what is meant.
 """

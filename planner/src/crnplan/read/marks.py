@@ -1,6 +1,9 @@
-"""Marks the columns of tables that choose rows (`where`), that may split what an item's rows say, as places such as stores and
-states such as `Cancelled`, or that are asked about by their cells: which lines are closed, what kind of stock a row is, what
-numbers beside the quantity are, and how many items a unit of measure has."""
+"""Marks the columns of tables that choose rows, may split what rows say, or are asked about by their cells.
+
+`where` chooses rows. Places such as stores, and states such as `Cancelled`, split them. Cells are asked about that
+may say which lines are closed, what kind of stock a row is, what numbers beside the quantity are, and how many items
+a unit of measure has.
+"""
 from __future__ import annotations
 
 import re

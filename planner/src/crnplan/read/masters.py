@@ -1,5 +1,7 @@
-"""Reads the rows of masters: costs, a wanted share, lead times, today's levels, bounds and prices; and takes what a
-planner states for all items if a row lacks it."""
+"""Reads the rows of masters: costs, wanted shares, lead times, today's levels, bounds and prices.
+
+If a row lacks what a planner states for all items, it is taken from there.
+"""
 from __future__ import annotations
 
 import math
@@ -82,7 +84,6 @@ class Masters:
         table.read_rows(self._readers(), NEEDED["items"] - words.roles, CONVERTED)
 
     def _readers(self) -> dict[str, Callable[[Cell], Any]]:
-        """Returns what reads the cells of each role."""
         amounts = self.whole.amounts
         times = self.whole.times
         every = self.words.every

@@ -1,5 +1,6 @@
-"""Knows the names of months in the languages of Babel's tables, which are those of Unicode (CLDR), and which month a name
-means among the other names of a table.
+"""Knows the names of months in many languages, and which month a name means among the others of a table.
+
+The names are those of Babel, which are those of Unicode (CLDR).
 
 A name may mean two months: `lis` is October in Croatian, and November in Polish and Czech. Those languages decide that
 have all names of the table. Where they don't, both readings are returned. A language that is official in no country

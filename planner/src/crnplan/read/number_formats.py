@@ -131,7 +131,6 @@ class Section:
         self.has_digits = True
 
     def _show(self, text: str) -> None:
-        """Takes a text that the reader sees."""
         if self.has_digits:
             self.behind += text
         else:
@@ -206,7 +205,6 @@ class Format:
         return Shown(section.before, spelt(value), section.behind)
 
     def _section(self, number: CellNumber) -> Section:
-        """Returns the section that is for a number."""
         if any(section.condition for section in self.sections):
             fitting = (part for part in self.sections if part.holds_for(number))
             return next(fitting, self.sections[-1])

@@ -1,5 +1,7 @@
-"""Opens tables that can be read several times: CSV files, also gzipped, sheets of workbooks, DataFrames, and what a pipe
-gives once."""
+"""Opens tables that can be read several times: CSV files, workbooks, DataFrames, and what a pipe gives once.
+
+CSV files may be gzipped.
+"""
 from __future__ import annotations
 
 import contextlib

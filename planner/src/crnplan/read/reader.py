@@ -146,7 +146,6 @@ class Reader:
         return int(masters[0]) if len(masters) else None
 
     def _are_equal(self, masters: Numbers) -> bool:
-        """Returns whether rows of masters are all the same."""
         return len({*self.first_masters[masters].tolist()}) <= 1
 
     def _sure_row(self, item: int) -> int | None:

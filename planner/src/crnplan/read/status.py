@@ -1,5 +1,7 @@
-"""Reads what masters say of the status of an item: active, phase out, stopped, or that it succeeds another item, or is
-replaced by one."""
+"""Reads what masters say of the status of an item, as active, phase out or stopped.
+
+It may also succeed another item, or be replaced by one.
+"""
 from __future__ import annotations
 
 import re

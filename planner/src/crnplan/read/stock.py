@@ -1,5 +1,7 @@
-"""Reads today's tables: the stock of items, what is owed to customers, what is on order, what was placed since, and what a
-planner orders in place of what the plan says."""
+"""Reads today's tables: stock, what is owed to customers, what is on order or placed since, and quantities.
+
+Quantities are what a planner orders in place of what the plan says.
+"""
 from __future__ import annotations
 
 from collections import defaultdict
@@ -130,7 +132,6 @@ class _Reader:
         return files == others and all(file.path for file in sheet.files)
 
     def _read(self, row: int) -> tuple[Values, list[CellFault]]:
-        """Returns the values of a row by role, and what is wrong with its cells."""
         values, faults = self.table.row(row)
         if not faults:
             faults = [*self._judged(row, values)]
@@ -165,7 +166,6 @@ class _Reader:
         return ordered
 
     def _leave(self, code: str, others: Flags, **facts: Value) -> None:
-        """Leaves rows out, and says so."""
         count = np.count_nonzero(others & self.rows.good)
         if count:
             self.table.leave(others)
@@ -281,7 +281,6 @@ class _Reader:
 
     @cached_property
     def hands(self) -> dict[str, OnHand]:
-        """Returns what items have by a table of stock."""
         hands = dict[str, OnHand]()
         for name, rows in self.found.items():
             places = [OnHand.of(row["stock"], row.get("owed", NONE)) for row in rows]
@@ -291,8 +290,6 @@ class _Reader:
 
     @cached_property
     def controls(self) -> Controls:
-        """Returns what the rows come to, by file and by what became of them."""
-
         def price_of(item: int) -> Fraction | None:
             return self.prices.get(self.names[item])
 

@@ -1,5 +1,7 @@
-"""Reads the tables of a catalogue into files by part of its items, in several processes, and says what all rows say
-together: how dates and amounts are read, and the ends of the record."""
+"""Reads the tables of a catalogue into files by part of its items, in several processes.
+
+It says what all rows say together: how dates and amounts are read, and the ends of the record.
+"""
 from __future__ import annotations
 
 import contextlib

@@ -1,5 +1,7 @@
-"""Reads the rows of one table: the days and amounts of its columns, what is wrong with cells, and what becomes of each
-row. So a history, a catalogue and today's tables are read."""
+"""Reads the rows of one table: its days and amounts, what is wrong with cells, and what becomes of each row.
+
+So a history, a catalogue and today's tables are read.
+"""
 from __future__ import annotations
 
 from collections.abc import Callable, Collection, Iterable, Mapping, Sequence

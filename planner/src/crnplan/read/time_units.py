@@ -1,5 +1,7 @@
-"""Settles what the times of masters count if neither their heading nor a word says it: each cell has its own unit, or the
-receipts of orders agree with one unit alone. Else the column is refused."""
+"""Settles what the times of masters count if neither their heading nor a word says it.
+
+Each cell has its own unit, or the receipts of orders agree with one unit alone. Else the column is refused.
+"""
 from __future__ import annotations
 
 import statistics

@@ -1,5 +1,7 @@
-"""Reads times as people write them: lead times, of which a cell may list several, and other times. A number has the unit
-behind it, else that of its column; `2 weeks 3 days` is one time of 17 days."""
+"""Reads times as people write them: lead times, of which a cell may list several, and other times.
+
+A number has the unit behind it, else that of its column; `2 weeks 3 days` is one time of 17 days.
+"""
 from __future__ import annotations
 
 import itertools

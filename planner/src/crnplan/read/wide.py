@@ -1,5 +1,6 @@
-"""Reads wide tables of demand, with a row for each item and a column for each day, week or month, as rows with a date and
-a quantity.
+"""Reads wide tables of demand, with a column for each period, as rows with a date and a quantity.
+
+They have a row for each item, and periods are days, weeks or months.
 
 An empty cell is no demand, as a period without a row is: most systems leave it empty. It is a period whose demand is not
 known if that is stated. If other cells of the table say 0, an empty one behind the first filled one of its row may be

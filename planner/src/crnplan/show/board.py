@@ -1,5 +1,7 @@
-"""Computes the first screen of a catalogue's page, for those who decide: what the plan saves a year, service and stock
-before and after, in all and by class, and what was left out."""
+"""Computes the first screen of a catalogue's page, for those who decide.
+
+It has what the plan saves a year, service and stock before and after, in all and by class, and what was left out.
+"""
 from __future__ import annotations
 
 import math

@@ -1,5 +1,8 @@
-"""Draws the plan of a catalogue as one HTML page (what it saves, the exchange curve, what is left out, all items), and
-writes all that a plan exports. None of it is read again, but by people."""
+"""Draws the plan of a catalogue as one HTML page, and writes all that a plan exports.
+
+The page has what it saves, the exchange curve, what is left out, and all items. None of it is read again, but by
+people.
+"""
 from __future__ import annotations
 
 import contextlib

@@ -1,5 +1,7 @@
-"""The table of what the plan of a catalogue aims at and promises: by the past of a class, and of items that are planned
-together."""
+"""The table of what the plan of a catalogue aims at and promises.
+
+It is by the past of a class, and of items that are planned together.
+"""
 from __future__ import annotations
 
 from typing import TYPE_CHECKING, NamedTuple

@@ -1,5 +1,7 @@
-"""The tables of what a plan says on a day (orders, what is above S, lies dead or is owed, classes and suppliers,
-additions, what is left out), and what they add up to as a text."""
+"""The tables of what a plan says on a day, and what they add up to as a text.
+
+They have orders, what is above S, lies dead or is owed, classes and suppliers, additions, and what is left out.
+"""
 from __future__ import annotations
 
 import datetime
@@ -227,7 +229,6 @@ class OrdersToday(Result):
         }
 
     def _made(self, name: str) -> DataTable:
-        """Returns a table by its name."""
         today, currency = self.today, self.currency
         match name:
             case "orders":

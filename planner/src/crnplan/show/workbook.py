@@ -1,5 +1,7 @@
-"""Writes a plan as a workbook: a sheet for each table, a chart of the curve, and what columns mean. The same plan with the same
-orders gives the same bytes."""
+"""Writes a plan as a workbook: a sheet for each table, a chart of the curve, and what columns mean.
+
+The same plan with the same orders gives the same bytes.
+"""
 from __future__ import annotations
 
 from collections.abc import Iterator, Mapping

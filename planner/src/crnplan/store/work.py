@@ -163,7 +163,6 @@ class _Turns:
         self._order.append(Answered(*question, asked))
 
     def begin(self, question: NamedDigest, asked: Any) -> None:
-        """Adds a question that is now under way."""
         self._waiting.add(question)
         self.add(question, asked)
 
@@ -171,7 +170,6 @@ class _Turns:
         self._waiting.difference_update(questions)
 
     def ready(self) -> Iterator[Answered]:
-        """Yields the questions whose turn it is."""
         while self._order and self._order[0][:2] not in self._waiting:
             yield self._order.popleft()
 

@@ -86,7 +86,6 @@ RINGS = f"{', '.join(map(str, formats.RING_SIZES[:4]))}, .., {formats.RING_SIZES
 
 
 def _ring_faults(path: Path, value: Any) -> list[TreeFault]:
-    """Returns the faults of the size of the ring."""
     if type(value) is not int:
         return wrong_kind(path, value, "a whole number")
     if value in formats.RING_SIZES:

@@ -1,5 +1,8 @@
-"""Tests the plans of all items of a catalogue on their past. What was tested before is not tested again, unless the
-item, the settings or what items learn from one another have changed."""
+"""Tests the plans of all items of a catalogue on their past.
+
+What was tested before is not tested again, unless the item, the settings or what items learn from one another have
+changed.
+"""
 from __future__ import annotations
 
 import contextlib
