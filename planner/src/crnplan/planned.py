@@ -341,6 +341,7 @@ class Plan(Result):
             program=self.program,
             confirm=confirm,
         )
+        # The folder may end with this plan, and the curve may be used for longer.
         return drawn.keep() if self.room else drawn
 
     @judged("call")

@@ -102,6 +102,7 @@ def heir(item: Item, old: Item, words: Reading) -> Item:
     has_law = item.law is not None
     past = past_of(item.status, known, words.least, words.every, by_test, has_law)
     first = period_name(old.first, words.every)
+    # Its own record said that: the joint one is judged anew.
     remarks = [remark for remark in item.remarks if remark.code != QUIET]
     facts: dict[str, Value] = {"items": sum(old.known.counts), "first": first}
     remarks.append(Remark("successor", {"item": old.name, **facts}))
