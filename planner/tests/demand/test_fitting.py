@@ -14,7 +14,7 @@ from hypothesis import given, settings, strategies as st
 from scipy import special, stats
 
 from crnplan.chances import in_items
-from crnplan.demand import fitting, posterior
+from crnplan.demand import borrowing, fitting, posterior
 from crnplan.demand.families import FAMILIES, METHODS, fits_of, predictive_of
 from crnplan.demand.fitted import Borrowed, Diagnostics, FittedLaw, fit_words
 from crnplan.demand.borrowing import fit_demand
@@ -328,7 +328,9 @@ def test_whole_numbers_of_any_kind(numbers: Any) -> None:
 def test_refused(case: dict[str, Any]) -> None:
     """Numbers that are not whole, or out of the range of a scenario, and methods, families, boxes and numbers of laws
     that are none, are refused, with the box that is large enough."""
-    call = {**vars(fitting), **vars(posterior)}[case.get("call", "fit_demand")]
+    call = {**vars(borrowing), **vars(fitting), **vars(posterior)}[
+        case.get("call", "fit_demand")
+    ]
     with pytest.raises(Refused) as refused:
         call(case["numbers"], **case.get("words", {}))
     assert case["said"] in str(refused.value)

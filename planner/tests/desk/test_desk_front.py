@@ -46,7 +46,7 @@ class Idle:
 @pytest.fixture
 def filed(planner: Planner, monkeypatch: pytest.MonkeyPatch) -> Planner:
     """Returns who asks a desk with files, whose work does nothing."""
-    monkeypatch.setattr(fronts, "Work", Idle)
+    monkeypatch.setattr(fronts, "DeskWork", Idle)
     for kind, text in ROWS.items():
         with (planner.desk.folder.room() / "rows").open("w+b") as file:
             file.write(text.encode())

@@ -29,14 +29,16 @@ def check_orders(plan: Path, today: Path, parts: pd.DataFrame) -> pd.Series[floa
         pd.read_csv(path, dtype={"item": str}, index_col="item")
         for path in (today / "today_orders.csv", plan / "decisions.csv")
     )
-    unknown = orders.index[orders.order.isna()]
+    unknown = orders.index[orders.placed.isna()]
     assert [int(name[-3:]) for name in unknown] == [NEW]
     parts, orders = parts.loc[decisions.index], orders.drop(unknown)
     due = parts.stock < decisions.s_chosen
     assert {*orders.index} == {*parts.index[due]}
     assert pd.read_csv(plan / "details.csv").periods.max() == WEEKS
     wanted = (decisions.S_chosen - parts.stock)[orders.index]
-    assert (orders.order == wanted).all() and (orders.placed >= wanted).all()
+    assert (orders.S - orders.position == wanted).all() and (
+        orders.placed >= wanted
+    ).all()
     worth = orders.placed * parts.price[orders.index]
     assert (orders.value - worth).abs().max() < CENT
     return orders.value

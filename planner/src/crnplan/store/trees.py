@@ -1,6 +1,7 @@
 """Makes values again from plain data that `dataclasses.asdict` has made of them, as JSON keeps it."""
 from __future__ import annotations
 
+import dataclasses
 import typing
 from typing import Any
 
@@ -18,5 +19,7 @@ def value_of(kind: Any, tree: Any) -> Any:
     hints = typing.get_type_hints(kind)
     if not hints:
         return tree
-    fields = tree.items() if isinstance(tree, dict) else zip(hints, tree)
+    # A list of no fields is no dataclass, even if all of its fields have defaults.
+    is_named = dataclasses.is_dataclass(kind) or isinstance(tree, dict)
+    fields = tree.items() if is_named else zip(hints, tree)
     return kind(**{name: value_of(hints[name], part) for name, part in fields})
