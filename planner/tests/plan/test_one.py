@@ -285,7 +285,7 @@ def test_a_run_without_rare_events_is_no_fault(
     """A run that meets none of a few dear shortages is far from theory by its own spread, and no fault."""
     seen, honest = list[Any](), checked_run.RunSample
     monkeypatch.setattr(
-        checked_run, "Sample", lambda *words: seen.append(words) or honest(*words)
+        checked_run, "RunSample", lambda *words: seen.append(words) or honest(*words)
     )
     rare = {
         "counts": (*[1, 0, 1, 2] * 150, 60),

@@ -59,8 +59,6 @@ def check_figures(scenario: Scenario) -> None:
     pairs = [(scenario.demand, scenario.lead)]
     found = figures_of_laws(scenario, pairs, scenario.policies)
     cost, fill, *_ = np.transpose(expected)
-    assert found.error is None
-    assert found.step == np.gcd.reduce(scenario.demand.values) or scenario.returns
     assert found.cost[0] == pytest.approx(cost, abs=1e-7)
     assert found.fill[0] == pytest.approx(fill, abs=1e-7)
 
