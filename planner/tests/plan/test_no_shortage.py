@@ -228,3 +228,12 @@ def test_rows_that_are_refused() -> None:
     assert "may be 0.95% or 95%" in read.rejects.reason[0]
     masters = made()[1].rename(columns={"no_shortage": "cycle service level"})
     assert len(crn.read_catalogue(sales, masters).rejects) == 3
+
+
+def test_the_goal_of_an_item_without_a_plan(program: Path) -> None:
+    """What is wanted of an item without demand is shown beside no share that it has."""
+    sales, masters = tables_of([item_of(0, **GOAL)])
+    both = pd.concat([masters, masters.assign(item="quiet")]).assign(no_shortage=0.95)
+    plan = crn.plan(sales, both, program=program, **WORDS)
+    quiet = whole_frame(plan).set_index("item").loc["quiet"]
+    assert quiet.no_shortage_wanted == 0.95 and pd.isna(quiet.no_shortage_chosen)

@@ -13,6 +13,7 @@ import pytest
 from hypothesis import given, settings, strategies as some, strategies as st
 
 from crnplan import formats
+import crnplan as crn
 from crnplan.chances import Floats
 from crnplan.errors import Refused
 from crnplan.money import rounded_costs
@@ -22,7 +23,7 @@ from crnplan.plan.totals import Totals
 from crnplan.plan.question import finest
 from crnplan.read.item import Item
 from crnplan.remarks import Remark
-from crnplan.store.stored import StoredColumns, Damaged, Store, sealed
+from crnplan.store.stored import StoredColumns, Damaged, Store, reading, sealed
 
 FLOATS = some.floats(allow_nan=False)
 WHOLE = some.integers(-(2**80), 2**80)
@@ -198,3 +199,10 @@ def test_finest_rates(setup: int, holding: int) -> None:
     assert rates["setup"] <= 10**8
     assert rates["holding"] <= 10_000
     assert 10 * rates["setup"] > 10**8 or 10 * rates["holding"] > 10_000
+
+
+def test_what_a_caller_refuses_is_no_damage(tmp_path: Path) -> None:
+    with pytest.raises(crn.Refused, match="^no such item; name one$") as refused:
+        with reading(tmp_path / "kept"):
+            raise crn.Refused("no such item", "name one")
+    assert not isinstance(refused.value, Damaged)

@@ -2,6 +2,7 @@
 told."""
 from __future__ import annotations
 
+import gzip
 import itertools
 import os
 from pathlib import Path
@@ -180,3 +181,12 @@ def test_sheets(folder: Path, crnplan: Command) -> None:
     assert (
         kinds_said(told.errors)["own.xlsx"] == "left out, since crnplan has written it"
     )
+
+
+def test_a_packed_file_is_what_its_columns_say(folder: Path, crnplan: Command) -> None:
+    packed = gzip.compress((folder / "x0.csv").read_bytes())
+    (folder / "x0.csv").unlink()
+    (folder / "x0.csv.gz").write_bytes(packed)
+    told = crnplan("plan", ".", "--check")
+    assert told.status == 0, told
+    assert kinds_said(told.errors)["x0.csv.gz"] == read_as("demand")

@@ -114,13 +114,6 @@ class GroupRow:
             return self.today.number(self.group.name)
         return ""
 
-    @property
-    def file(self) -> str:
-        """Returns the file of today's order; empty if nothing is ordered."""
-        if self.group.due:
-            return supplier_file(self.today.place(self.group.name))
-        return ""
-
 
 Stands = TodayRow | UnknownRow | Listed | Addition | Risk
 Reasoned = TodayRow | UnknownRow | Listed | Risk
