@@ -189,7 +189,7 @@ def test_a_folder_of_exports(tmp_path: Path, crnplan: Command) -> None:
     written(tmp_path, wide)
     (tmp_path / "decisions.csv").write_text("item,s_chosen,S_chosen\nA,20,50\n")
     told = crnplan("plan", tmp_path, "--check")
-    assert told.status == 0 and "demand.csv: 79 rows = 78 used + 1 rej" in told.output
+    assert told.status == 0 and "demand.csv: 104 rows = 103 used" in told.output
     for name, what in (
         ("demand", "it is the table demand by its columns"),
         ("items", "it is the table items by its columns"),
