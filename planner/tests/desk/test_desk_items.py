@@ -10,7 +10,7 @@ from typing import Any
 import pytest
 
 import crnplan as crn
-from crnplan.desk.kept import LAST_TEST, PLANS, Begun, DeskOverride
+from crnplan.desk.kept import LAST_TEST, OVERRIDES, PLANS, Begun, DeskOverride
 from crnplan.desk.safety import WHOLE_PAGE
 from crnplan.desk.work import STOPPED, TESTING
 from crnplan.read.overrides import SET_LEVELS, Override as Stated
@@ -262,6 +262,7 @@ def test_override_is_ordered_by_once_planned_again(
     buyer.front.known.pop("listed", None)
     plan(buyer, way="again")
     wait_for(lambda: "listed" in buyer.front.known)
+    assert f"overrides={buyer.desk.path / OVERRIDES}" in buyer.get("/plan").text
     after = levels_today(buyer)
     assert after["A"] == (30, 70) and "B" in before and "B" not in after
     page = item_page_of(buyer, tmp_path, item="B")
