@@ -139,11 +139,9 @@ def finished(
         descriptor = os.open(
             part,
             os.O_WRONLY | os.O_CREAT | os.O_EXCL | os.O_NOFOLLOW,
-            # Others can't read what may be private before it has the mode of the old file.
             0o600 if old else 0o666,
         )
     except OSError as fault:
-        # The user knows this name, not the random one.
         fault.filename = str(path)
         raise
     try:
@@ -152,7 +150,6 @@ def finished(
                 take_traits(part, path, old)
             yield file
             file.flush()
-            # Else a loss of power may leave the name without the bytes.
             os.fsync(file.fileno())
         put_in_place(part, path)
     except BaseException:
@@ -168,7 +165,6 @@ def take_traits(part: Path, path: Path, old: os.stat_result) -> None:
     except PermissionError as fault:
         owner = f"{path}: it belongs to another user or group, and a new file in its place would not"
         raise Refused(owner, "name another file") from fault
-    # After the owner: a change of that clears bits of the mode.
     shutil.copystat(path, part)
 
 
@@ -179,7 +175,6 @@ def as_text(data: IO[bytes]) -> Iterator[IO[str]]:
         data, encoding="utf-8", errors="backslashreplace", newline=""
     )
     yield file
-    # Else the bytes would be closed with the text.
     file.detach()
 
 
@@ -226,7 +221,6 @@ def opened_name(path: Path) -> tuple[int | None, os.stat_result | None]:
     """Returns the descriptor through which what stands at a name is written, or else the state of the file that is to be
     replaced; None for both if nothing is there. A pipe waits for its reader."""
     try:
-        # A terminal does not become the one from which this process is interrupted.
         descriptor = os.open(path, os.O_WRONLY | os.O_NOCTTY)
     except FileNotFoundError:
         return None, None
@@ -301,7 +295,6 @@ class Folder:
         text = "\n".join([self._signature, *sorted(self._names), ""])
         if text != self._text:
             data, self._text = text.encode(), text
-            # A disk that is nearly full takes a part without an error.
             if os.pwrite(self._marker, data, 0) < len(data):
                 raise OSError(errno.ENOSPC, os.strerror(errno.ENOSPC))
             os.ftruncate(self._marker, len(data))
