@@ -114,6 +114,11 @@ class GroupRow:
             return self.today.number(self.group.name)
         return ""
 
+    @property
+    def file(self) -> str:
+        """Returns the file of today's order of a supplier that has one."""
+        return supplier_file(self.today.place(self.group.name))
+
 
 Stands = TodayRow | UnknownRow | Listed | Addition | Risk
 Reasoned = TodayRow | UnknownRow | Listed | Risk
