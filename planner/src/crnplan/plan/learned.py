@@ -78,7 +78,7 @@ def learners(read: Catalogued, by_class: bool) -> Iterator[Item]:
         groups = Counter(group for _, group in teaching(read, by_class))
         most = MOST_OF_CLASSES
         if groups.total() > MOST_OF_CLASSES:
-            # A class of more than MOST_PULLED has a prior of its own, and is to keep it.
+            # A class of more than MOST_PULLED items has its own prior and keeps it.
             most = max(MOST_PULLED + 1, MOST_OF_CLASSES // len(groups))
     for item in map(read.item, drawn_of_groups(teaching(read, by_class), most)):
         if item and item.box == 1 and item.known.counts:

@@ -476,7 +476,7 @@ class Room:
 
         self.kept = kept
         self.path = Path(tempfile.mkdtemp(prefix="crnplan-")).absolute()
-        # In a session of its own no interrupt of a terminal reaches it; in / it keeps no disk in use.
+        # Its own session keeps a terminal's interrupts away; its folder, /, keeps no other disk in use.
         guard = subprocess.Popen(
             ["/bin/sh", "-c", GUARD, "crnplan", self.path],
             stdin=subprocess.PIPE,
