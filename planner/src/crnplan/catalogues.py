@@ -186,7 +186,7 @@ def read_catalogue(
     ----------
     demand : path, DataFrame or Series
         A row for each movement (item, date, quantity, perhaps returned and promotion), or for each item, with a column for
-        each period, or for each period, with a column for each item. A Series by date is the demand of the item of its name.
+        each period. A Series by date is the demand of the item of its name.
         There may be several files with one heading, as `demand-2026-*.csv`. A file whose rows are all in another file is
         refused, unless `twice` is said.
     items : path or DataFrame

@@ -80,6 +80,8 @@ MOST_NAME = 100  # letters of the name of a column in a message
 # Of more columns than these, the first ones are named.
 MOST_LISTED, FIRST_LISTED = 12, 5
 NO_ROW = Remark("no row")
+# The columns of which there is more to say if there is none.
+OWN_ADVICE = "items.setup", "items.holding", "demand.item"
 TWO_COLUMNS = "two columns"  # the code of what is said of these
 SEVERAL = "several units of a column"  # that of those in a heading that is stated
 
@@ -271,7 +273,7 @@ class Finder:
                 unknown = ", ".join(map(repr, words))
                 self._refuse("unknown words", role, name=heading[place], words=unknown)
         elif role in self.needed or role not in self.stated and self._has_other(role):
-            own = f" of {role}" * (role in ("setup", "holding"))
+            own = f" of {role}" * (f"{self.kind}.{role}" in OWN_ADVICE)
             code = "no column" + (" of a level" if role in LEVELS else own)
             facts = {"kind": self.kind, "other": LEVELS.get(role, "")}
             self._refuse(code, role, columns=listed(heading), **facts)
@@ -284,16 +286,6 @@ class Finder:
             return [place for place, name in enumerate(self.plain) if name in PERIODS]
         own = self.plain[: -len(WIDE_ROLES[self.kind]) - 1] if self.is_wide else []
         return [0] if role == "item" and len(own) == 1 and own[0] in NAMELESS else []
-
-    @property
-    def turned_place(self) -> int | None:
-        """Returns the place of the dates of a table that may have a column for each item: it has a column of dates and no
-        other one with a role. None if it can have none."""
-        if self.kind != "demand" or {"item", "quantity"} & self.stated.keys():
-            return None
-        if not self.columns and self.plain and self.plain[0] in NAMELESS:
-            return 0
-        return self.columns["date"].place if {*self.columns} == {"date"} else None
 
     def _has_other(self, role: str) -> bool:
         """Returns whether a role is s or S, and there is a column of the other one."""

@@ -8,7 +8,7 @@ from ..remarks import Remark
 from .columns import NO_ROW, Finder, refused_heading
 from .law_forms import LAWS, form_faults
 from .sources import Sheet
-from .wide import turned_sheet, wide_sheet
+from .wide import wide_sheet
 
 if TYPE_CHECKING:
     from .items import Reading
@@ -30,8 +30,6 @@ def columns_in(
     if sheet.heading:
         sheet.columns, wrong = finder.find(sheet.heading)
     wide = wide_sheet(sheet) if finder.may_be_wide else None
-    if wide is None and sheet.heading and finder.turned_place is not None:
-        wide = turned_sheet(sheet, finder.turned_place)
     if wide:
         sheet = wide
         finder = Finder(kind, words, is_wide=True)

@@ -319,11 +319,6 @@ class Sheet:
         """Returns the name of the file and the line in it of a row's line, and the heading of its cell in a wide table."""
         return self.file_name, line, ""
 
-    def heading_at(self, line: int, place: int) -> tuple[int, str]:
-        """Returns the line and the heading of a cell of a wide table, by its line in this one and its place from 1, which is
-        0 for a whole row."""
-        return line, self.heading[place - 1] if place else ""
-
     def called(self, line: int) -> int | str:
         """Returns the line of a row as messages call it."""
         file, line, heading = self.at(line)

@@ -31,8 +31,7 @@ from .sources import (
 
 # Roles that a wide table has no column for.
 NO_WIDE_ROLES = "returned", "promotion"
-LEAST_PERIODS, LEAST_ITEMS = 2, 2
-AMOUNT = re.compile(r"[-+]?[0-9][0-9.,' \u00a0]*")
+LEAST_PERIODS = 2
 # The line of a cell has the place of its column, from 1, above so many bits.
 LINE_BITS = 23
 # An item whose name only begins like a total is an item.
@@ -101,7 +100,8 @@ class WideSheet(Sheet):
 
     def at(self, line: int) -> tuple[str, int, str]:
         place, line = divmod(line, 1 << LINE_BITS)
-        return self.file_name, *self.sheet.heading_at(line, place)
+        heading = self.sheet.heading[place - 1] if place else ""
+        return self.file_name, line, heading
 
     def rows(self) -> Iterator[Row]:
         zeros = empty = 0
@@ -192,70 +192,6 @@ class WideSheet(Sheet):
     def refused(self, code: str, **facts: Value) -> RefusedFaults:
         """Returns the error of the heading."""
         return refused(code, self.name, self.line, **facts)
-
-
-class TurnedSheet(Sheet):
-    """A table with a row for each period and a column for each item, as one with a row for each item. All of it is read at
-    once. Its lines are those of its own rows; messages have those of the file."""
-
-    unsent = ("cells", "sheet")
-
-    def __init__(self, sheet: Sheet, place: int, rows: Sequence[Row]) -> None:
-        """Takes the table, the place of its dates, and its rows that are not blank."""
-        super().__init__(sheet.name, sheet.written, sheet.rules, sheet.path)
-        self.take_head(sheet)
-        self.sheet = sheet
-        self.size = sheet.size
-        self.lines = [line for line, _ in rows]
-        self.heading = ["item", *(text_of(cells[place]) for _, cells in rows)]
-        self.names = dict[int, str]()
-        self.cells = list[list[Cell]]()
-        for column, name in enumerate(sheet.heading):
-            if column != place and name:
-                own = (
-                    cells[column] if column < len(cells) else "" for _, cells in rows
-                )
-                self.cells.append([name, *own])
-                self.names[self.line + len(self.cells)] = name
-
-    def rows(self) -> Iterator[Row]:
-        yield from enumerate(self.cells, self.line + 1)
-
-    def heading_at(self, line: int, place: int) -> tuple[int, str]:
-        return (self.lines[place - 2] if place > 1 else self.line), self.names[line]
-
-
-def is_amount(cell: Cell) -> bool:
-    """Returns whether a cell is a number, however it is written."""
-    if isinstance(cell, str):
-        return AMOUNT.fullmatch(cell.strip()) is not None
-    return isinstance(cell, (int, float))
-
-
-def turned_sheet(sheet: Sheet, place: int) -> WideSheet | None:
-    """Returns a table whose dates are in the column at a place as rows if it has a column for each of several items: if
-    each other column has a number. Else None. Raises RefusedFaults as `wide_sheet` does.
-    """
-    names = enumerate(sheet.heading)
-    others = [column for column, name in names if name and column != place]
-    sheet.columns = {
-        str(it): SourceColumn(sheet.heading[it], it) for it in (place, *others)
-    }
-    rows = [
-        (line, cells)
-        for line, cells in sheet.rows()
-        if line > sheet.line and any(map(text_of, cells))
-    ]
-    for column in others:
-        cells = (cells[column] for _, cells in rows if column < len(cells))
-        if len(others) < LEAST_ITEMS or not any(map(is_amount, cells)):
-            return None
-    wide = wide_sheet(TurnedSheet(sheet, place, rows))
-    if wide:
-        first, last = sheet.heading[others[0]], sheet.heading[others[-1]]
-        facts: dict[str, Value] = {"count": len(others), "first": first, "last": last}
-        wide.notes = [Remark("column for each item", facts), *wide.notes]
-    return wide
 
 
 def wide_sheet(sheet: Sheet) -> WideSheet | None:
