@@ -133,81 +133,78 @@ def whole_numbers(numbers: Iterable[Fraction | None]) -> tuple[list[int], int]:
     return [int(number * scale) for number in known], scale
 
 
-class _Groups:
-    """The rows of a table by group: their file, and what became of them. `unread` are those with an amount that can't be
-    read."""
+class _Sums:
+    """Sums the rows of a table: their amounts as they stand there, what these are worth, and their days, 0 of a row without
+    one. `unread` are rows with an amount that can't be read."""
 
-    def __init__(self, table: TableReader, factors: Mapping[str, int]) -> None:
-        """Takes how many items a unit of measure counts as."""
-        self.table = table
+    def __init__(
+        self, table: TableReader, price_of: PriceOf, factors: Mapping[str, int]
+    ) -> None:
+        """Takes the price of an item by its code, and how many items a unit of measure counts as."""
+        self.table, self.price_of = table, price_of
         self.columns = table.rows.columns
-        files = table.rows.lines >> FILE_BITS
-        self.codes: Numbers = files * len(STATES) + table.states
-        self.count = int(self.codes.max(initial=-1)) + 1
-        self.unread: Flags = np.zeros(len(self.codes), bool)
-        # How many items a unit of measure has by the code of a row, and how many of these numbers are 1.
-        self.sizes, self.size = [1], 1
-        self.sized = "factor" if "factor" in self.columns else "measure"
-        if self.sized == "factor":
-            known = map(table.amounts["factor"].known, self.columns["factor"].distinct)
-            self.sizes, self.size = whole_numbers(known)
-        elif "measure" in self.columns:
-            units = map(text_of, self.columns["measure"].distinct)
-            self.sizes = [factors.get(unit, 1) for unit in units]
+        self.unread: Flags = np.zeros(len(table.rows), bool)
+        self.days: Numbers = np.zeros(len(table.rows), np.int64)
+        date = DATED.get(table.kind, "")
+        if date in self.columns:
+            cells, day_of = self.columns[date].distinct, table.dates.day
+            days, _ = values_of(cells, lambda cell: day_of(cell).toordinal(), 0)
+            self.days = self.columns[date].of_rows(days, np.int64)
+        sized, sizes, size = "measure", [1], 1
+        if "factor" in self.columns:
+            sized = "factor"
+            read = table.amounts[sized].known
+            sizes, size = whole_numbers(map(read, self.columns[sized].distinct))
+        elif sized in self.columns:
+            units = map(text_of, self.columns[sized].distinct)
+            sizes = [factors.get(unit, 1) for unit in units]
+        # The amounts of the rows by role, as whole numbers, and how many of these are 1.
+        self.amounts = dict[str, tuple[npt.NDArray[Any], int]]()
+        for role in SUMMED[table.kind]:
+            if role in self.columns:
+                self.amounts[role] = self._numbers(role, max(sizes, default=1))
+        for role, (self.packs, scale) in [*self.amounts.items()][:1]:
+            self.size = Fraction(table.factors.get(role, 1)) / scale / size
+        if sized in self.columns and self.amounts:
+            kind = self.packs.dtype.type
+            self.packs = self.packs * self.columns[sized].of_rows(sizes, kind)
 
-    def numbers(self, role: str) -> tuple[npt.NDArray[Any], int]:
-        """Returns the number of each row in a column, 0 of one that has none, as `whole_numbers` does."""
+    def _numbers(self, role: str, times: int) -> tuple[npt.NDArray[Any], int]:
+        """Returns the number of each row in a column, 0 of one that has none, as `whole_numbers` does. They may be multiplied
+        so many times."""
         column = self.columns[role]
         known = [*map(self.table.amounts[role].known, column.distinct)]
-        unread = [
-            code
-            for code, cell in enumerate(column.distinct)
-            if cell != "" and known[code] is None
-        ]
-        self.unread |= self.table.rows.having(role, unread)
+        cells = zip(column.distinct, known)
+        wrong = (cell != "" and number is None for cell, number in cells)
+        self.unread |= column.of_rows(wrong, bool)
         numbers, scale = whole_numbers(known)
-        largest = max(-min(numbers, default=0), max(numbers, default=0))
-        most = largest * max(self.sizes, default=1)
-        kind = np.int64 if most * len(self.codes) < MOST_EXACT else object
+        most = max((abs(number) for number in numbers), default=0) * times
+        kind = np.int64 if most * len(column.codes) < MOST_EXACT else object
         return column.of_rows(numbers, kind), scale
 
-    def sums(self, numbers: npt.NDArray[Any], scale: int) -> list[Fraction]:
-        sums = sums_of(self.codes, numbers, self.count)
-        return [Fraction(total, scale) for total in sums.tolist()]
+    def control(self, rows: Numbers) -> Control:
+        """Returns what some rows come to."""
+        amounts = dict[str, Fraction]()
+        for role, (numbers, scale) in self.amounts.items():
+            amounts[role] = Fraction(int(numbers[rows].sum()), scale)
+        days = self.days[rows]
+        days = days[days > 0].tolist()
+        ends = min, max
+        first, last = (Day.fromordinal(end(days)) if days else None for end in ends)
+        unread = np.count_nonzero(self.unread[rows])
+        return Control(len(rows), amounts, self._worth(rows), first, last, unread)
 
-    def worths(
-        self, numbers: npt.NDArray[Any], price_of: PriceOf, packs: Fraction
-    ) -> dict[int, Fraction]:
-        """Returns what numbers of packs of items are worth in each group with a price."""
-        if self.sized in self.columns:
-            sizes = self.columns[self.sized].of_rows(self.sizes, numbers.dtype.type)
-            numbers = numbers * sizes
-        items = self.columns["item"]
-        keys = self.codes * len(items.distinct) + items.codes
-        sums = sums_of(keys, numbers, self.count * len(items.distinct))
-        worths = dict[int, Fraction]()
-        for key in np.flatnonzero(np.bincount(keys)).tolist():
-            group, item = divmod(key, len(items.distinct))
-            price = price_of(item)
+    def _worth(self, rows: Numbers) -> Fraction | None:
+        """Returns what some rows are worth; None if no item of them has a price."""
+        if not self.amounts:
+            return None
+        items, which = np.unique(self.table.rows.items[rows], return_inverse=True)
+        sums = sums_of(which, self.packs[rows], len(items)).tolist()
+        worths = list[Fraction]()
+        for price, packs in zip(map(self.price_of, items.tolist()), sums):
             if price is not None:
-                worths[group] = worths.get(group, NONE) + int(sums[key]) * price
-        return {group: worth * packs / self.size for group, worth in worths.items()}
-
-    def ends(self, role: str) -> dict[int, tuple[Day, Day]]:
-        """Returns the first and the last date of each group that has one."""
-        column = self.columns[role]
-        days, wrong = values_of(column.distinct, self.table.dates.day, Day.min)
-        numbers = column.of_rows(map(Day.toordinal, days), np.int64)
-        rows = ~self.table.rows.having(role, wrong)
-        firsts = np.full(self.count, Day.max.toordinal())
-        lasts = np.zeros_like(firsts)
-        np.minimum.at(firsts, self.codes[rows], numbers[rows])
-        np.maximum.at(lasts, self.codes[rows], numbers[rows])
-        ends = dict[int, tuple[Day, Day]]()
-        for group in np.unique(self.codes[rows]).tolist():
-            first, last = int(firsts[group]), int(lasts[group])
-            ends[group] = Day.fromordinal(first), Day.fromordinal(last)
-        return ends
+                worths.append(price * packs)
+        return sum(worths, NONE) * self.size if worths else None
 
 
 def controls_of(
@@ -215,29 +212,13 @@ def controls_of(
 ) -> Controls:
     """Returns the controls of the rows of a table, by the price of each item, also of files without rows. A unit of measure
     counts so many items as `factors` says."""
-    groups = _Groups(table, factors)
-    roles = [role for role in SUMMED[table.kind] if role in groups.columns]
-    sums = dict[str, list[Fraction]]()
-    worths = dict[int, Fraction]()
-    ends = dict[int, tuple[Day, Day]]()
-    for role in roles:
-        numbers, scale = groups.numbers(role)
-        sums[role] = groups.sums(numbers, scale)
-        if role == roles[0]:
-            packs = Fraction(table.factors.get(role, 1)) / scale
-            worths = groups.worths(numbers, price_of, packs)
-    date = DATED.get(table.kind)
-    if date in groups.columns:
-        ends = groups.ends(date)
-    unread = np.bincount(groups.codes[groups.unread], minlength=groups.count)
+    sums = _Sums(table, price_of, factors)
     names = names_of_files(table.rows.sheet)
     controls: Controls = {(table.kind, name, USED): Control() for name in names}
-    for group, size in enumerate(np.bincount(groups.codes).tolist()):
-        if size:
-            file, state = divmod(group, len(STATES))
-            amounts = {role: sums[role][group] for role in roles}
-            first, last = ends.get(group, (None, None))
-            controls[table.kind, names[file], STATES[state]] = Control(
-                size, amounts, worths.get(group), first, last, int(unread[group])
-            )
+    groups = (table.rows.lines >> FILE_BITS) * len(STATES) + table.states
+    order = np.argsort(groups, kind="stable")
+    found, starts = np.unique(groups[order], return_index=True)
+    for group, rows in zip(found.tolist(), np.split(order, starts[1:])):
+        file, state = divmod(group, len(STATES))
+        controls[table.kind, names[file], STATES[state]] = sums.control(rows)
     return controls
