@@ -232,23 +232,19 @@ def plain_cells(sheet: TextSheet, data: bytes, skip: int) -> Cells | None:
     except UnicodeError:
         return None
     signs = np.frombuffer(data, np.uint8)
-    width = len(sheet.heading) - 1
     ends = np.flatnonzero(signs == ord("\n"))
     ends = ends if data.endswith(b"\n") else np.append(ends, len(data))
     starts = np.append(0, ends[:-1] + 1)[skip:]
     ends = ends[skip:]
+    cuts = np.flatnonzero(signs == ord(sheet.delimiter))
+    cells = np.searchsorted(cuts, ends) - np.searchsorted(cuts, starts)
     if (
         not len(ends)
+        or (cells != len(sheet.heading) - 1).any()
         # pandas would leave these bytes out.
         or data.startswith(codecs.BOM_UTF8, starts[0])
         or (ends - starts).max() > csv.field_size_limit()
     ):
-        return None
-    cuts = np.flatnonzero(signs[starts[0] :] == ord(sheet.delimiter)) + starts[0]
-    if len(cuts) != width * len(ends):
-        return None
-    cuts = cuts.reshape(len(ends), width)
-    if width and ((cuts[:, 0] < starts) | (cuts[:, -1] > ends)).any():
         return None
     return Cells(
         np.arange(skip, skip + len(ends)) + 1,

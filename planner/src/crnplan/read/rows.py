@@ -6,10 +6,9 @@ blank ones.
 from __future__ import annotations
 
 from collections.abc import Callable, Collection, Iterable, Iterator, Mapping
-from typing import Any, Protocol
+from typing import Protocol
 
 import numpy as np
-import numpy.typing as npt
 
 from ..remarks import Remark
 from .amounts import AmountReader
@@ -22,20 +21,12 @@ from .sources import FILE_BITS, Sheet
 # An amount is far above all others if it is so many times the next largest; TIMES_OF_FEW times if it has fewer others
 # than LEAST_OTHERS. At most MOST_FAR are.
 TIMES_NEXT, TIMES_OF_FEW, LEAST_OTHERS, MOST_FAR = 30, 300, 4, 3
-# The columns of blocks that are put together.
-JOINED = {"lines": np.int64, "good": np.bool_, "other": np.bool_, "hashes": np.uint64}
+# What blocks have for each row.
+BY_ROW = {"lines": np.int64, "good": np.bool_, "other": np.bool_, "hashes": np.uint64}
 
 
-class Rows:
-    """The rows of a table, but for blank ones, whose lines are in `blank`: the line of each and, by role, the column of
-    values. `wide` has how many cells those rows have that have more than the heading, and their texts. `good` says
-    which rows are of use: the others decide nothing. `other` rows have another value than is wanted.
-    """
-
-    lines: Numbers
-    good: Flags
-    other: Flags
-    hashes: npt.NDArray[np.uint64]
+class Rows(Block):
+    """The rows of a table, whose blocks are put together. Those that are not good decide nothing."""
 
     def __init__(
         self,
@@ -48,33 +39,25 @@ class Rows:
         self.sheet = sheet
         self.blank = list[int]()
         self.wide = dict[int, tuple[int, str]]()
+        self.columns = dict[str, CodedColumn]()
+        for name, kind in BY_ROW.items():
+            setattr(self, name, np.zeros(0, kind))
         values = {role: Codes() for role in (*sheet.columns, *sheet.marks)}
         if names is not None:
             values["item"] = names
-        codes = {role: [np.zeros(0, np.int32)] for role in values}
-        joined: dict[str, list[npt.NDArray[Any]]] = {}
-        for name, kind in JOINED.items():
-            joined[name] = [np.zeros(0, kind)]
-        count = 0
-        for before, block in blocks:
-            for role, column in block.columns.items():
-                codes[role].append(values[role].of(column.distinct)[column.codes])
-            self.blank += [before + line for line in block.blank]
-            self.wide |= {count + row: cells for row, cells in block.wide.items()}
-            count += len(block)
-            block.lines = block.lines + before
-            for name, arrays in joined.items():
-                arrays.append(getattr(block, name))
-        for name, arrays in joined.items():
-            setattr(self, name, np.concatenate(arrays))
-        self.columns = dict[str, CodedColumn]()
         for role, known in values.items():
-            self.columns[role] = CodedColumn(
-                np.concatenate(codes[role]), known.distinct
-            )
-
-    def __len__(self) -> int:
-        return len(self.lines)
+            self.columns[role] = CodedColumn(np.zeros(0, np.int32), known.distinct)
+        for before, block in blocks:
+            self.wide |= {len(self) + row: cells for row, cells in block.wide.items()}
+            self.blank += [before + line for line in block.blank]
+            block.lines = block.lines + before
+            for name in BY_ROW:
+                both = getattr(self, name), getattr(block, name)
+                setattr(self, name, np.concatenate(both))
+            for role, column in block.columns.items():
+                codes = values[role].of(column.distinct)[column.codes]
+                codes = np.append(self.columns[role].codes, codes)
+                self.columns[role] = CodedColumn(codes, values[role].distinct)
 
     @property
     def items(self) -> Numbers:
