@@ -29,7 +29,7 @@ from .plan.catalogue import check_earlier, planned_folder
 from .read.catalogue_reading import CATALOGUE, READ, read_into
 from .read.opening import Table
 from .read.law_forms import LAWS
-from .read.spans import OUT
+from .read.moves import OUT
 from .read.overriding import set_overrides
 from .read.stated_laws import StatedTable, laws_frame
 from .read.configuration import made_from

@@ -34,7 +34,7 @@ from .read.catalogue_reading import (
 from .read.items import Counts, Reading
 from .read.lateness import receipt_remarks
 from .read.law_forms import LAWS
-from .read.spans import OUT
+from .read.moves import OUT
 from .read.opening import Table
 from .read.stated_laws import StatedTable, laws_frame
 from .read.configuration import merged, told_of

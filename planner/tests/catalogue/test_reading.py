@@ -6,6 +6,7 @@ import dataclasses
 import datetime
 import random
 import tomllib
+from collections.abc import Mapping
 from pathlib import Path
 from typing import Any
 
@@ -20,7 +21,7 @@ from crnplan.read.catalogue_reading import read_alone
 from crnplan.read.dates import period_of
 from crnplan.read.item import Item
 from crnplan.read.items import Reading
-from crnplan.read.tables import OPEN, PLACES, USED, States, TableReader
+from crnplan.read.tables import OPEN, PLACES, USED, TableReader
 from crnplan.catalogues import Catalogue, read_catalogue
 from crnplan.words import sentence
 from planner.tests.catalogue.audit import Audit, audit
@@ -221,7 +222,7 @@ def test_a_lost_row_is_said(files: Path, monkeypatch: pytest.MonkeyPatch) -> Non
     """Says how many rows are lost if some are, as if a part of the reader were wrong."""
     own = TableReader.close
 
-    def without(self: TableReader, became: States) -> None:
+    def without(self: TableReader, became: Mapping[int, str]) -> None:
         """Loses a row that was used."""
         own(self, became)
         if self.kind == "demand":

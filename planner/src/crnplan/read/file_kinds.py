@@ -17,7 +17,7 @@ from .looks import Look, likeliest, looks_as
 from .items import Reading
 from .law_forms import LAWS
 from .opening import LOCK, Table
-from .spans import OUT
+from .moves import OUT
 from .overriding import OVERRIDES
 from .several import files_of
 from .stock import EXPORTED

@@ -27,7 +27,7 @@ from .opening import Table
 from .overrides import Override, level_faults, word_of
 from .parts import ADD_REJECT, ITEM, REJECT, REPLACE_ITEM
 from .several import open_tables
-from .tables import TableReader
+from .tables import TableReader, alone
 
 OVERRIDES = "overrides"  # the kind of the table
 StatedOverrides = Mapping[str, Override | None]
@@ -71,7 +71,8 @@ def read_overrides(
     with open_tables({OVERRIDES: table}, replace(words, where=())) as sheets:
         if OVERRIDES not in sheets:
             return {}, {}
-        read = TableReader.of(OVERRIDES, sheets[OVERRIDES], rejects.append)
+        found = alone(OVERRIDES, sheets[OVERRIDES])
+        read = TableReader(OVERRIDES, *found, rejects.append)
         overrides = overrides_in(read)
     for name, (line, _) in overrides.items():
         read.name("item", line, name, [fault("item", name, "not in the plan")])

@@ -21,17 +21,25 @@ from .item import PHASE_OUT, STOPPED, Item, overridden, some
 from .items import OUTSIDE, Left, Reject, Reading
 from .leads import remark_on
 from .masters import Master, Masters
-from .moves import Movements, is_marked, places_of_spans, unread_in
+from .moves import (
+    NO_SPANS,
+    OUT,
+    Movements,
+    is_marked,
+    outages_in,
+    places_of_spans,
+    receipts_in,
+    unread_in,
+)
 from .observed import summed, sums_of
 from .law_forms import LAWS
 from .quiet import quiet_remark
 from .repeated import is_called_total, total_rows
 from .rows import Rows
-from .spans import NO_SPANS, OUT, outages_in, receipts_in
 from .sources import NONE
 from .stated_laws import StatedLaws
-from .status import BY_TEST, past_of
-from .tables import OPEN, PLACES, REJECTED, USED, WITH_ITEM, TableReader
+from .status import past_of
+from .tables import PLACES, REJECTED, USED, WITH_ITEM, TableReader
 
 # What items are counted by.
 COUNTED = ("open_orders", "twice", "named", "ready", "left_out", "late")
@@ -162,20 +170,20 @@ class Reader:
             orders = self.tables["orders"]
             receipts_of, is_open = receipts_in(orders, self.words.every)
             self.numbers["open_orders"] += is_open
-        became = np.full(len(self.names), PLACES[OPEN], np.int8)
+        became = dict[int, str]()
         for item in self.items:
             moves = self.moves_of(item)
             self.numbers["named"] += 1
             try:
                 yield self._item(item, moves, *receipts_of(item).tolist())
-                became[item] = PLACES[USED]
+                became[item] = USED
                 self.numbers["ready"] += 1
             except Left as left:
                 kind, line, *faults = left.args
                 value = self.masters.value(self._sure_row(item))
                 name, rows = self.names[item], len(moves.lines)
                 self.tables[kind].name("item", line, name, faults, rows, value)
-                became[item] = PLACES[WITH_ITEM]
+                became[item] = WITH_ITEM
                 self.numbers["left_out"] += 1
                 if self._is_lost(item):
                     self.numbers["lost"] += 1
@@ -285,7 +293,9 @@ class Reader:
         """Returns an item by its code, with what its orders took in periods and in days. Raises Left."""
         self._check_measures(code)
         master = self._master(code, leads, moves)
-        self._check_far(moves)
+        far = moves.far(self.demand.rows.sheet.called)
+        if far and self.words.far == LEAVE_OUT:
+            raise Left("demand", *far)
         stated = self.laws and self.laws.law(code, master.item.leads)
         first = self._first(master.since, moves.known)
         if stated and not len(moves.lines):
@@ -305,7 +315,7 @@ class Reader:
             abc=self.letters.get(code, ""),
             receipts=tuple(receipts),
         )
-        item = replace(item, past=self._past(item))
+        item = replace(item, past=past_of(item, self.words))
         if item.levels and round(item.levels[1] / item.box) > MOST_ITEMS:
             wrong = fault("S", item.levels[1], "S too large", most=MOST_ITEMS)
             raise Left("items", item.line, wrong)
@@ -323,12 +333,6 @@ class Reader:
             self.numbers["bare"] += is_bare
         item = replace(item, remarks=remarks)
         return overridden(item, item.override)
-
-    def _past(self, item: Item) -> str:
-        """Returns what the periods of an item whose demand is known say of its past, or its status."""
-        words, known = self.words, item.known.counts
-        by_test, has_law = words.stopped == BY_TEST, item.law is not None
-        return past_of(item.status, known, words.least, words.every, by_test, has_law)
 
     def _unknown(self, code: int, first: int, count: int) -> tuple[set[int], set[int]]:
         """Returns the places of the periods of which a row of an item has no amount that can be read, of so many from one
@@ -485,10 +489,3 @@ class Reader:
         return any(
             code not in wrong or wrong[code].code not in OUTSIDE for code in codes
         )
-
-    def _check_far(self, moves: Movements) -> None:
-        """Raises Left if some amounts are far above all others, as if counted a thousand times too large."""
-        if self.words.far != LEAVE_OUT:
-            return
-        if far := moves.far(self.demand.rows.sheet.called):
-            raise Left("demand", *far)

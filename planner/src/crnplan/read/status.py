@@ -5,7 +5,8 @@ It may also succeed another item, or be replaced by one.
 from __future__ import annotations
 
 import re
-from collections.abc import Mapping, Sequence
+from collections.abc import Mapping
+from typing import TYPE_CHECKING
 
 from .cells import (
     HEADINGS,
@@ -17,8 +18,11 @@ from .cells import (
     text_of,
     without_accents,
 )
-from .item import NEW, NO_DEMAND, PHASE_OUT, STATED, STOPPED, USUAL
+from .item import NEW, NO_DEMAND, PHASE_OUT, STATED, STOPPED, USUAL, Item
 from .quiet import has_stopped
+
+if TYPE_CHECKING:
+    from .items import Reading
 
 ACTIVE, SUCCESSOR, REPLACED = "active", "successor", "replaced"
 MEANINGS = ACTIVE, PHASE_OUT, STOPPED
@@ -65,24 +69,20 @@ def status_of(cell: Cell, stated: Mapping[str, str]) -> tuple[str, str]:
     raise Unreadable("no status", cell, known=", ".join(MEANINGS))
 
 
-def past_of(
-    status: str,
-    counts: Sequence[int],
-    least: int,
-    every: str,
-    by_test: bool,
-    has_law: bool = False,
-) -> str:
-    """Returns what the record of an item says of its past, if its status does not say that it ends: the demand by period,
-    of which a law of its own needs at least so many. `by_test` lets the record say that the item has stopped, whatever
-    its status. One whose law is stated is planned whatever its record says.
+def past_of(item: Item, words: Reading) -> str:
+    """Returns what the record of an item whose demand is known says of its past, if its status does not say that it ends: a
+    law of its own needs so many periods. The record may say that it has stopped, whatever its status, if words let it.
+    One whose law is stated is planned whatever its record says.
     """
-    if status in (STOPPED, PHASE_OUT):
-        return status
-    if has_law:
+    counts = item.known.counts
+    if item.status in (STOPPED, PHASE_OUT):
+        return item.status
+    if item.law is not None:
         return STATED
-    if len(counts) < least:
+    if len(counts) < words.least:
         return NEW
     if not any(counts):
         return NO_DEMAND
-    return STOPPED if by_test and has_stopped(counts, every) else USUAL
+    if words.stopped == BY_TEST and has_stopped(counts, words.every):
+        return STOPPED
+    return USUAL

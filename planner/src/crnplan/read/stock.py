@@ -35,7 +35,7 @@ from .opening import Table
 from .quantities import Quantity, quantity_fault
 from .several import open_tables
 from .sources import Sheet
-from .tables import OPEN, PLACES, USED, WITH_ITEM, TableReader, Values
+from .tables import USED, WITH_ITEM, TableReader, Values, alone
 
 KINDS = STOCK, ON_ORDER, PLACED, QUANTITIES = (
     "stock",
@@ -89,7 +89,7 @@ class Holdings:
     filed: Mapping[str, Sequence[Fraction]] = field(default_factory=dict)
 
 
-class _Reader:
+class _Reader(TableReader):
     """Reads the rows of a table for the items of a plan, whose prices are known, and names those that it leaves out."""
 
     def __init__(
@@ -101,11 +101,10 @@ class _Reader:
         packs: Mapping[str, int],
     ) -> None:
         """Takes the packs of items, if they are not of one item."""
-        self.kind, self.prices, self.packs = kind, prices, packs
-        self.unread, self.judged = set[str](), set[str]()
         self.rejects = list[Reject]()
-        self.table = TableReader.of(kind, sheet, self.rejects.append)
-        self.rows = self.table.rows
+        super().__init__(kind, *alone(kind, sheet), self.rejects.append)
+        self.prices, self.packs = prices, packs
+        self.unread, self.judged = set[str](), set[str]()
         self.names = self.rows.names
         self.said = list[Remark]()
         self.asked = list[Remark]()
@@ -116,12 +115,12 @@ class _Reader:
             self._leave("closed rows", closed, column=name)
         self.as_of = self._keep_latest() if kind == STOCK else None
         self.asked += questions(kind, self.rows, self.sizes)
-        readers = {role: self.table.number(role) for role in AMOUNTS[kind]}
+        readers = {role: self.number(role) for role in AMOUNTS[kind]}
         if "due" in self.rows.columns:
-            for remark in self.table.dates.notes.values():
-                self.table.name("suspicious", 0, "", [("due", "", remark)])
-        others = {"due": self.table.dates.day, "reason": reason_of}
-        self.table.read_rows({**readers, **others}, readers)
+            for remark in self.dates.notes.values():
+                self.name("suspicious", 0, "", [("due", "", remark)])
+        others = {"due": self.dates.day, "reason": reason_of}
+        self.read_rows({**readers, **others}, readers)
 
     def is_of(self, sheet: Sheet) -> bool:
         """Returns whether a table is in the same files as the one that was read, and nobody has changed these since."""
@@ -132,7 +131,7 @@ class _Reader:
         return files == others and all(file.path for file in sheet.files)
 
     def _read(self, row: int) -> tuple[Values, list[CellFault]]:
-        values, faults = self.table.row(row)
+        values, faults = self.row(row)
         if not faults:
             faults = [*self._judged(row, values)]
         if not faults:
@@ -161,14 +160,14 @@ class _Reader:
         ordered: Fraction = items.get("ordered", items["quantity"])
         for name, mark in self.rows.sheet.marks.items():
             if mark.use == ORDERED:
-                number = self.table.amounts["quantity"].known(self.rows.cell(name, row))
+                number = self.amounts["quantity"].known(self.rows.cell(name, row))
                 return ordered if number is None else number * size
         return ordered
 
     def _leave(self, code: str, others: Flags, **facts: Value) -> None:
         count = np.count_nonzero(others & self.rows.good)
         if count:
-            self.table.leave(others)
+            self.leave(others)
             file = self.rows.sheet.file_name
             self.said.append(Remark(code, {"file": file, "rows": count, **facts}))
 
@@ -182,8 +181,8 @@ class _Reader:
         if "date" not in rows.columns or not good.any():
             return None
         column, values = rows.sheet.columns["date"], rows.counts("date")
-        days = self.table.read_days("date")
-        del self.table.wrong["date"]  # A row counts, whatever its day is.
+        days = self.read_days("date")
+        del self.wrong["date"]  # A row counts, whatever its day is.
         last = days.max(where=good, initial=0)
         day = Day.fromordinal(int(last)) if last else None
         places = [rows.columns[it].codes for it in marks if marks[it].use == PLACE]
@@ -238,7 +237,7 @@ class _Reader:
         lines = self.rows.lines.tolist()
         twins = self.rows.twins(good)
         rows_of = self.rows.by_item(good)
-        became = np.full(len(self.names), PLACES[OPEN], np.int8)
+        became = dict[int, str]()
         found = dict[str, list[Values]]()
         for item in np.unique(self.rows.items[good]).tolist():
             name = self.names[item]
@@ -248,20 +247,20 @@ class _Reader:
                 values, faults = self._read(row)
                 if faults:
                     self.unread.add(name)
-                    self.table.reject(row, faults)
+                    self.reject(row, faults)
                 if row in twins:
                     first = self.rows.sheet.called(lines[twins[row]])
                     twin = fault("item", name, "equal rows", first=first)
-                    self.table.name("suspicious", lines[row], name, [twin])
+                    self.name("suspicious", lines[row], name, [twin])
                 read.append(values)
             is_used = name in self.prices and name not in self.unread
-            became[item] = PLACES[USED if is_used else WITH_ITEM]
+            became[item] = USED if is_used else WITH_ITEM
             if is_used:
                 found[name] = read
             elif name not in self.unread:
                 unknown = fault("item", name, "not in the plan")
-                self.table.name("item", lines[rows[0]], name, [unknown])
-        self.table.close(became)
+                self.name("item", lines[rows[0]], name, [unknown])
+        self.close(became)
         return found
 
     @cached_property
@@ -293,7 +292,7 @@ class _Reader:
         def price_of(item: int) -> Fraction | None:
             return self.prices.get(self.names[item])
 
-        return controls_of(self.table, price_of, self.sizes)
+        return controls_of(self, price_of, self.sizes)
 
     def remarks(self) -> Iterator[Remark]:
         """Yields what is to be said of the rows: over which places items are summed, and states of rows."""
@@ -374,7 +373,7 @@ def _said_by(
     counts = dict[str, FileCounts]()
     controls: Controls = {}
     for reader in readers:
-        rows, kind = reader.rows, reader.table.kind
+        rows, kind = reader.rows, reader.kind
         rejects += reader.rejects
         remarks += reader.remarks()
         controls |= reader.controls

@@ -18,7 +18,7 @@ from .dates import period_name
 from .item import PHASE_OUT, STOPPED, Item, some
 from .items import Reading
 from .quiet import QUIET, quiet_remark
-from .status import ACTIVE, BY_TEST, past_of
+from .status import ACTIVE, past_of
 
 Find = Callable[[str], Item | None]
 Pair = tuple[str, str]  # an item and the one that succeeds it
@@ -98,9 +98,7 @@ def succeeded(pairs: Iterable[Pair], find: Find, words: Reading) -> dict[str, It
 def heir(item: Item, old: Item, words: Reading) -> Item:
     """Returns an item that succeeds another one, with its demand."""
     joint = summed(item, old)
-    known, by_test = joint.known.counts, words.stopped == BY_TEST
-    has_law = item.law is not None
-    past = past_of(item.status, known, words.least, words.every, by_test, has_law)
+    past = past_of(joint, words)
     first = period_name(old.first, words.every)
     # Its own record said that: the joint one is judged anew.
     remarks = [remark for remark in item.remarks if remark.code != QUIET]

@@ -39,6 +39,15 @@ STATES = USED, REJECTED, WITH_ITEM, OTHER, OPEN = (
 PLACES: Mapping[str, int] = {state: place for place, state in enumerate(STATES)}
 
 
+def alone(
+    kind: str, sheet: Sheet
+) -> tuple[Rows, DateReader, Mapping[str, AmountReader]]:
+    """Returns all rows of a table that decides alone how its dates and amounts are read, with what reads these."""
+    rows = rows_of(sheet)
+    readers = {role: amount_reader(rows, role) for role in AMOUNTS[kind]}
+    return rows, date_reader(rows, readers), readers
+
+
 def values_of(
     cells: Iterable[Cell], read: Callable[[Cell], Value], default: Value
 ) -> tuple[list[Value], Wrong]:
@@ -81,15 +90,6 @@ class TableReader:
         self.wrong = dict[str, Wrong]()
         for row, wrong in rows.nameless():
             self.reject(row, [wrong], "")
-
-    @classmethod
-    def of(
-        cls, kind: str, sheet: Sheet, add: Callable[[Reject], None] | None = None
-    ) -> TableReader:
-        """Reads all rows of a table that decides alone how its dates and amounts are read."""
-        rows = rows_of(sheet)
-        readers = {role: amount_reader(rows, role) for role in AMOUNTS[kind]}
-        return cls(kind, rows, date_reader(rows, readers), readers, add)
 
     def read(
         self, role: str, read: Callable[[Cell], Any], default: Any = None
@@ -245,7 +245,9 @@ class TableReader:
         self.states[others & self.rows.good] = PLACES[OTHER]
         self.rows.good &= ~others
 
-    def close(self, became: States) -> None:
+    def close(self, became: Mapping[int, str]) -> None:
         """Gives each row of which nothing is said yet the state of its item, by the code of this."""
+        items = range(len(self.rows.names))
+        states = np.array([PLACES[became.get(item, OPEN)] for item in items])
         is_open = self.states == PLACES[OPEN]
-        self.states[is_open] = became[self.rows.items[is_open]]
+        self.states[is_open] = states[self.rows.items[is_open]]

@@ -16,6 +16,7 @@ from ..errors import Fault, RefusedFaults
 from ..remarks import Remark, Value
 from .cells import Cell, Unreadable
 from .columns import DAYS
+from .moves import receipts_in
 from .table_files import FiledTable, CataloguePart, WholeTables
 from .rows import Rows
 from .tables import TableReader
@@ -46,15 +47,12 @@ def seen_times(
     """Yields the bare lead time of each item of a part that has one and receipts, with the days that these took."""
     items = rows["items"]
     orders = TableReader("orders", rows["orders"], whole.dates["orders"], {})
-    placed, received, is_open = orders.read_spans("ordered", "received")
-    took = received - placed
-    known = orders.rows.good & ~orders.bad & ~is_open & (took >= 0)
-    receipts_of = orders.rows.by_item(known)
+    receipts_of, _ = receipts_in(orders, whole.record.every)
     for row in np.flatnonzero(items.good).tolist():
         stated = bare_time(whole.times["lead"], items.cell("lead", row))
-        receipts = receipts_of(int(items.items[row]))
-        if stated is not None and len(receipts):
-            yield stated, took[receipts].tolist()
+        _, days = receipts_of(int(items.items[row])).tolist()
+        if stated is not None and days:
+            yield stated, days
 
 
 def unit_of(stated: Fraction, days: list[int]) -> str:
