@@ -109,8 +109,8 @@ def text_of(cell: Cell) -> str:
     return "" if cell is None else str(cell)
 
 
-def reason_of(cell: Cell) -> str:
-    """Returns what a planner says of a row, on one line."""
+def printable(cell: Cell) -> str:
+    """Returns the text of a cell on one line, with blanks for its control characters."""
     return UNPRINTABLE.sub(" ", text_of(cell))
 
 

@@ -14,7 +14,7 @@ from ..money import MOST_DECIMALS
 from ..remarks import Value
 from .amounts import AMOUNTS, KINDS, PERCENT
 from .bounds import OrderBounds
-from .cells import UNPRINTABLE, Cell, CellFault, Unreadable, fault, shown
+from .cells import Cell, CellFault, Unreadable, fault, printable, shown
 from .columns import (
     DAYS,
     MONEY,
@@ -48,10 +48,6 @@ def borrowed_from(cell: Cell) -> str:
             "no borrow", cell, known=f"{', '.join(BORROW[:-1])} or {BORROW[-1]}"
         )
     return source
-
-
-def printable(cell: Cell) -> str:
-    return UNPRINTABLE.sub(" ", str(cell))
 
 
 class Master(NamedTuple):
@@ -212,6 +208,9 @@ class Masters:
         sources |= goals.sources
         read["setup"] = self.words.setup if read["setup"] is None else read["setup"]
         status, other = read["status"] or ("", "")
+        days = None
+        if stated:
+            days = Fraction(sum(stated), len(stated)) * DAYS[self.words.every]
         item = Item(
             name,
             (),
@@ -237,7 +236,7 @@ class Masters:
             predecessor=other * (status == SUCCESSOR),
             successor=other * (status == REPLACED),
             line=line,
-            stated=self._days_of(stated),
+            stated=days,
         )
         return Master(item, decimals_of(map(read.get, MONEY)), sources, read["since"])
 
@@ -260,12 +259,6 @@ class Masters:
             return rate / periods_a_year(self.words.every) * (price or 0)
         stated *= self.money_factor("holding")
         return stated * (price or 0) if self.share else stated
-
-    def _days_of(self, leads: Sequence[int]) -> Fraction | None:
-        """Returns the mean of lead times in days; None without any."""
-        if not leads:
-            return None
-        return Fraction(sum(leads), len(leads)) * DAYS[self.words.every]
 
     def _bounds(self, read: Values, price: Fraction | None) -> OrderBounds:
         """Returns the bounds of an item with a price, by the values of its row without units. A 0 of a system states

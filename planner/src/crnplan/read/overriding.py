@@ -19,7 +19,7 @@ from ..remarks import Remark
 from ..store.files import Folder
 from .amounts import AMOUNTS
 from .catalogue_reading import READ, Catalogued
-from .cells import fault, reason_of
+from .cells import fault, printable
 from .columns import ROLES
 from .item import overridden
 from .items import Reject, Reading
@@ -38,7 +38,7 @@ def overrides_in(table: TableReader) -> dict[str, tuple[int, Override | None]]:
     levels that could not be read."""
     rows = table.rows
     readers = {role: table.number(role) for role in AMOUNTS[OVERRIDES]}
-    table.read_rows({**readers, "override": word_of, "reason": reason_of})
+    table.read_rows({**readers, "override": word_of, "reason": printable})
     overrides = dict[str, tuple[int, Override | None]]()
     faults = [*rows.nameless()]
     for row in np.flatnonzero(rows.good).tolist():

@@ -11,7 +11,7 @@ import numpy as np
 
 from ..formats import MOST_ITEMS
 from ..remarks import Remark, Value
-from .cells import UNPRINTABLE, Flags, Numbers, fault, named_lines, text_of
+from .cells import Flags, Numbers, fault, named_lines, printable, text_of
 from .marks import named_values, places_of
 from .controls import Controls, controls_of, together
 from .dates import period_name, periods_of_days
@@ -469,7 +469,7 @@ class Reader:
             raise Left("items", lines[1], several)
         row = int(rows[0])
         cells = self.rows["items"].cells(row)
-        stated = UNPRINTABLE.sub(" ", text_of(cells.get("class")))
+        stated = printable(cells.get("class"))
         group = stated if any(self.whole.groups) else self.letters.get(item, "")
         read, faults = self.masters.read(row, leads, group)
         rounded = self.masters.fine.intersection(cells.items())

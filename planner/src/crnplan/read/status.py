@@ -11,10 +11,10 @@ from typing import TYPE_CHECKING
 from .cells import (
     HEADINGS,
     LETTERS,
-    UNPRINTABLE,
     Cell,
     Unreadable,
     plain_name,
+    printable,
     text_of,
     without_accents,
 )
@@ -65,7 +65,7 @@ def status_of(cell: Cell, stated: Mapping[str, str]) -> tuple[str, str]:
     for status, pattern in NAMING:
         named = pattern.fullmatch(text)
         if named:
-            return status, UNPRINTABLE.sub(" ", named[1]).strip()
+            return status, printable(named[1]).strip()
     raise Unreadable("no status", cell, known=", ".join(MEANINGS))
 
 

@@ -18,7 +18,7 @@ from ..errors import Fault, RefusedFaults
 from ..remarks import Remark, Value
 from .amounts import AMOUNTS
 from .column_words import ORDERED
-from .cells import CellFault, Flags, fault, reason_of, text_of
+from .cells import CellFault, Flags, fault, printable, text_of
 from .marks import (
     PLACE,
     closed_rows,
@@ -119,7 +119,7 @@ class _Reader(TableReader):
         if "due" in self.rows.columns:
             for remark in self.dates.notes.values():
                 self.name("suspicious", 0, "", [("due", "", remark)])
-        others = {"due": self.dates.day, "reason": reason_of}
+        others = {"due": self.dates.day, "reason": printable}
         self.read_rows({**readers, **others}, readers)
 
     def is_of(self, sheet: Sheet) -> bool:
