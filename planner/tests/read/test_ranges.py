@@ -17,8 +17,8 @@ from crnplan.errors import Fault, RefusedFaults
 from crnplan.store.jobs import Workers
 from crnplan.read import sources
 from crnplan.read.blocks import Sizes
-from crnplan.read.headings import find_columns
-from crnplan.read.table_files import CataloguePart, read_tables
+from crnplan.read.columns import find_columns
+from crnplan.read.table_files import part_of, read_tables, rows_of_part
 from crnplan.read.items import Reading
 from crnplan.read.rows import Rows, rows_of
 from crnplan.read.opening import opened
@@ -93,16 +93,15 @@ def by_csv(text: str) -> list[Row]:
 
 def by_rows(its: Rows) -> list[Row]:
     """Returns of each row what `by_csv` does."""
+    twins = its.twins(its.good)
     return [
         (
             line,
             *(its.cell(role, row) for role in ("item", "date", "quantity")),
             bool(its.good[row]),
-            int(its.lines[first]),
+            int(its.lines[twins.get(row, row)]),
         )
-        for row, (line, first) in enumerate(
-            zip(its.lines.tolist(), its.firsts(its.good).tolist())
-        )
+        for row, line in enumerate(its.lines.tolist())
     ]
 
 
@@ -134,7 +133,7 @@ def rows_in_ranges(
         assert refused.faults == whole.value.faults
         return [], refused.faults
     parts, careful = [
-        CataloguePart({"demand": (sheet, table.pieces(part))}).rows()["demand"]
+        rows_of_part(part_of({"demand": table}, part, ["demand"]))["demand"]
         for part in range(PARTS)
     ], rows_of(sheet)
     found = sorted(row for its in parts for row in by_rows(its))

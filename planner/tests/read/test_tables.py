@@ -13,7 +13,7 @@ import pytest
 
 from crnplan.errors import Refused, RefusedFaults
 from crnplan.read import sources
-from crnplan.read.headings import find_columns
+from crnplan.read.columns import find_columns
 from crnplan.read.items import Reading
 from crnplan.read.observed import sums_of
 from crnplan.read.opening import opened

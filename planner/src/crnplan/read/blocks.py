@@ -325,6 +325,15 @@ def write_block(block: Block, path: Path, parts: int) -> Filed:
     return Filed(path, places, block.seen(), len(block), len(block.blank))
 
 
+def write_blocks(blocks: Iterable[Block], stem: Path, parts: int) -> list[Filed]:
+    """Writes blocks to new files whose names begin so, by part of the items."""
+    filed = list[Filed]()
+    for number, block in enumerate(blocks):
+        path = stem.with_name(f"{stem.name}-{number}")
+        filed.append(write_block(block, path, parts))
+    return filed
+
+
 class Sizes(NamedTuple):
     """How many bytes of a file are read at a time, of how many a part of the items is made, and how many parts there are
     at most. pandas reads tables of at least `plain` bytes: others are read before it is imported.
@@ -406,15 +415,13 @@ def read_range(
 ) -> RangeRead:
     """Reads a range, and writes its blocks into files whose names begin so, by part of the items."""
     sheet = copy.copy(sheet)
-    blocks = list[Filed]()
+    stem = stem.with_name(f"{stem.name}-{part.start}-{part.stop}")
     if part.start:
         sheet.line = 0
         # Only the first range has a heading, and a byte order mark that is no letter.
         sheet.encoding = sheet.encoding.removesuffix("-sig")
     try:
-        for number, block in enumerate(range_blocks(sheet, sizes, part)):
-            path = stem.with_name(f"{stem.name}-{part.start}-{part.stop}-{number}")
-            blocks.append(write_block(block, path, parts))
+        blocks = write_blocks(range_blocks(sheet, sizes, part), stem, parts)
     except RefusedFaults as refused:
         is_open = sheet.is_read and part.stop < sheet.state[0]
         return RangeRead(sheet.count, [], refused.faults, is_open)

@@ -1,4 +1,4 @@
-"""Finds the columns of a table and their units, and converts numbers into the unit of their role.
+"""Finds the heading of a table, its columns and their units, and converts numbers into the unit of their role.
 
 Columns are found by the names that a planner states, else by usual names.
 
@@ -7,7 +7,7 @@ weeks, months and years are of 1, 7, 30.4375 and 365.25 days, so a year has 52.1
 """
 from __future__ import annotations
 
-from collections.abc import Iterable, Mapping, Sequence
+from collections.abc import Mapping, Sequence
 from dataclasses import replace
 from fractions import Fraction
 from typing import TYPE_CHECKING
@@ -18,7 +18,7 @@ from ..table import names_of
 from .amounts import AMOUNTS, ITEM, UNITS
 from .column_words import Match, drop_units, narrowed, parted, words_of
 from .cells import HEADINGS, plain_name
-from .law_forms import LAWS
+from .law_forms import LAWS, form_faults
 from .sources import WIDE_ROLES, SourceColumn, Sheet
 from .unit_words import (
     BESIDE,
@@ -31,7 +31,7 @@ from .unit_words import (
     is_number,
     may_be_thousands,
 )
-from .wide import NO_WIDE_ROLES
+from .wide import NO_WIDE_ROLES, wide_sheet
 
 if TYPE_CHECKING:
     from .items import Reading
@@ -425,6 +425,30 @@ def stated_columns(
     return columns, wrong
 
 
-def refused_heading(sheet: Sheet, wrong: Iterable[Remark]) -> RefusedFaults:
-    """Returns the error of a heading."""
-    return RefusedFaults([*map(sheet.fault_of, wrong)])
+def columns_in(kind: str, sheet: Sheet, words: Reading) -> tuple[Sheet, list[Remark]]:
+    """Finds the heading of a table of a catalogue, and returns the table with its columns, as rows if it is a wide one, and
+    what is wrong with them."""
+    finder = Finder(kind, words)
+    sheet.find_heading([*filter(None, finder.stated.values())], finder.usual_role)
+    sheet.columns, wrong = {}, [NO_ROW]
+    if sheet.heading:
+        sheet.columns, wrong = finder.find(sheet.heading)
+    wide = wide_sheet(sheet) if finder.may_be_wide else None
+    if wide:
+        sheet = wide
+        sheet.columns, wrong = Finder(kind, words, is_wide=True).find(sheet.heading)
+        wide.mark_used()
+    if kind == LAWS and not wrong:
+        wrong = [*form_faults(sheet.columns)]
+    return sheet, wrong
+
+
+def find_columns(kind: str, sheet: Sheet, words: Reading) -> Sheet:
+    """Returns a table of a catalogue with its heading, its columns and its first rows. Raises RefusedFaults with all
+    that is wrong with them."""
+    if sheet.fault:
+        raise RefusedFaults([sheet.fault])
+    sheet, wrong = columns_in(kind, sheet, words)
+    if wrong:
+        raise RefusedFaults([*map(sheet.fault_of, wrong)])
+    return sheet

@@ -117,8 +117,11 @@ class DateReader:
         self.has_weeks = False  # whether numbers beside years are those of weeks
         self.is_of_weeks = False  # whether a column is named by its weeks
 
-    def look(self, cells: Iterable[Cell]) -> DateReader:
-        """Looks at the dates of a column, in the order of their rows. Returns itself."""
+    def look(self, cells: Iterable[Cell], name: str = "") -> DateReader:
+        """Looks at the dates of a column, in the order of their rows, and at its name: in one of weeks, numbers beside years are
+        those of weeks. Returns itself."""
+        if {*plain_name(name).split()} & PLAIN_WEEKS:
+            self.has_weeks = self.is_of_weeks = True
         if self.patterns:
             return self
         column = [*cells]
@@ -140,11 +143,6 @@ class DateReader:
                 break
         self._look_for_turned(column)
         return self
-
-    def look_at_name(self, name: str) -> None:
-        """Looks at the name of a column: in one of weeks, numbers beside years are those of weeks."""
-        if {*plain_name(name).split()} & PLAIN_WEEKS:
-            self.has_weeks = self.is_of_weeks = True
 
     def _look_at(self, text: str, parts: Written) -> None:
         # The year may be first in a short date with dashes.

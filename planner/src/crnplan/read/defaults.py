@@ -5,6 +5,7 @@ import re
 from collections.abc import Callable, Collection, Mapping, Sequence
 from dataclasses import dataclass
 from fractions import Fraction
+from functools import partial
 from typing import Any, NamedTuple, TypeVar
 
 from ..errors import Refused, argument
@@ -48,24 +49,15 @@ def shares_of(value: Any) -> dict[str, Fraction]:
     return named(share_of, dict(sorted(stated.items())))
 
 
-def lead_of(value: Any) -> str:
-    """Returns a lead time, or several, each with its unit. Raises Refused."""
+def time_in(value: Any, read: Callable[..., Any], unit: str, every: str) -> str:
+    """Returns a time, or several, as a text that can be read. Raises Refused. How long it is in the periods of a plan is
+    judged with these."""
     text = str(value).strip()
     try:
-        TimeReader().leads(text, "", "month")
+        read(text, unit, every)
     except Unreadable as why:
         if why.remark.code != "lead range":
             raise Refused(message(why.remark)) from why
-    return text
-
-
-def review_of(value: Any) -> str:
-    """Returns the time from one review to the next as a text. Raises Refused."""
-    text = str(value).strip()
-    try:
-        TimeReader().span(text, PERIOD, "day")
-    except Unreadable as why:
-        raise Refused(message(why.remark)) from why
     return text
 
 
@@ -99,6 +91,7 @@ def currency_of(cell: Cell) -> str:
     return code
 
 
+TIMES = TimeReader()
 MONEY = Kind(amount_of, "float or str", "MONEY")
 SHARE = Kind(share_of, "share, as 0.2 or '20%'", "SHARE")
 
@@ -127,11 +120,15 @@ class Defaults(Vocabulary):
         "cycle service level, which is of the end of a lead time, and no fill rate.",
     )
     lead: str | None = word(
-        Kind(lead_of, "str", "TIME"),
+        Kind(partial(time_in, read=TIMES.leads, unit="", every="month"), "str", "TIME"),
         help="The lead time, as '14 days', of items for which neither masters nor receipts say one.",
     )
     review: str | None = word(
-        Kind(review_of, "int or str", "TIME"),
+        Kind(
+            partial(time_in, read=TIMES.span, unit=PERIOD, every="day"),
+            "int or str",
+            "TIME",
+        ),
         help="Review items once in so many periods, as 4 or '28 days', if their masters say nothing; by default in each. s and S "
         "are then looked at on these days alone.",
     )
@@ -188,7 +185,7 @@ class Defaults(Vocabulary):
 
         :meta private:
         """
-        leads = TimeReader().leads
+        leads = TIMES.leads
         return tuple(self._read("lead", leads, "", every)) if self.lead else ()
 
     def reviews(self, every: str) -> int:
@@ -199,7 +196,7 @@ class Defaults(Vocabulary):
         """
         if self.review is None:
             return 1
-        return self._read("review", TimeReader().review, PERIOD, every)
+        return self._read("review", TIMES.review, PERIOD, every)
 
     def _read(
         self, name: str, read: Callable[..., Made], unit: str, every: str

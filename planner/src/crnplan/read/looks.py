@@ -18,8 +18,7 @@ from ..remarks import Remark
 from ..store.digests import digest_of
 from .column_words import ORDERED
 from .cells import text_of
-from .columns import NEEDED, TWO_COLUMNS
-from .headings import columns_in, find_heading
+from .columns import NEEDED, TWO_COLUMNS, columns_in
 from .items import Reading
 from .law_forms import LAWS
 from .opening import opened
@@ -106,10 +105,9 @@ def look_at(kind: str, table: str, words: Reading, room: Path | None = None) -> 
     try:
         with opened(table, kind, words.rules_of(kind), room) as sheet:
             sheet.is_sample = True
-            finder = find_heading(kind, sheet, words)
             if sheet.fault:
                 faults.append(sheet.fault)
-            found, wrong = columns_in(finder, sheet, words)
+            found, wrong = columns_in(kind, sheet, words)
             return Look(
                 kind,
                 sheet.written,

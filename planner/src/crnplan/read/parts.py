@@ -14,7 +14,13 @@ from ..store.stored import StoredColumns, quoted
 from .marks import split_items
 from .classes import abc_of
 from .controls import Controls
-from .table_files import FiledTable, CataloguePart, WholeTables
+from .table_files import (
+    CataloguePart,
+    FiledTable,
+    WholeTables,
+    part_of,
+    rows_of_part,
+)
 from .item import Item
 from .items import Reject, Reading
 from .reader import Reader
@@ -52,7 +58,7 @@ def values_of_part(
     part: CataloguePart, words: Reading, whole: WholeTables
 ) -> list[Fraction | None]:
     """Returns the value of the mean demand of each item of a part, in order of names."""
-    return Reader(part.rows(), words, whole).values()
+    return Reader(rows_of_part(part), words, whole).values()
 
 
 def items_of_part(
@@ -69,7 +75,7 @@ def items_of_part(
         def add(reject: Reject) -> None:
             base.execute(ADD_REJECT, REJECT.cells(reject))
 
-        reader = Reader(part.rows(), words, whole, add)
+        reader = Reader(rows_of_part(part), words, whole, add)
         base.executemany(ADD_ITEM, map(ITEM.cells, reader.read(letters)))
         base.commit()
     return PartRead(
@@ -94,7 +100,7 @@ def read_parts(
 ) -> list[PartRead]:
     """Returns what was read of each of so many parts, whose files stand in a folder. The classes of items by value
     depend on all of them. Raises Refused for stated classes that there are not."""
-    parts = [CataloguePart.of(tables, number, tables) for number in range(count)]
+    parts = [part_of(tables, number, tables) for number in range(count)]
     values = [
         *workers.in_order(values_of_part, ((part, words, whole) for part in parts))
     ]

@@ -76,7 +76,6 @@ class Reader:
             masters.good[row] = False
         self.masters = Masters(self.tables["items"], whole, words)
         self.masters_of = masters.by_item(masters.good)
-        self.first_masters = masters.firsts(masters.good)
         self.sources = Counter[tuple[str, str]]()
         self.letters = dict[int, str]()
         self.twice = Counter[int]()
@@ -88,10 +87,8 @@ class Reader:
         self.laws = None
         if LAWS in self.tables:
             self.laws = StatedLaws(self.tables[LAWS], words.every)
-        known = set[int]()
-        for own in rows.values():
-            known.update(np.unique(own.items[own.good]).tolist())
-        self.items = sorted(known - totals, key=self.names.__getitem__)
+        known = self.places.keys() - totals
+        self.items = sorted(known, key=self.names.__getitem__)
 
     @functools.cached_property
     def named(self) -> Callable[[int], Numbers]:
@@ -124,7 +121,7 @@ class Reader:
     def _is_lost(self, item: int) -> bool:
         """Returns whether an item that is left out would else be planned: it is asked for, and its status does not end
         it."""
-        values, _ = self.masters.values(self._row(self.masters_of(item)))
+        values, _ = self.masters.values(self._row(item))
         status, _ = values["status"] or ("", "")
         return item in self.asked and status not in (STOPPED, PHASE_OUT)
 
@@ -134,7 +131,7 @@ class Reader:
 
     def _value_of_demand(self, item: int) -> Fraction | None:
         moves = self.moves_of(item).known
-        price = self.masters.price(self._row(self.masters_of(item)))
+        price = self.masters.price(self._row(item))
         if price is None:
             return None
         if not len(moves.lines):
@@ -149,17 +146,15 @@ class Reader:
             return None
         return price * Fraction(asked, periods - len(unknown))
 
-    def _row(self, masters: Numbers) -> int | None:
-        """Returns the first of these rows of masters; None without a row."""
-        return int(masters[0]) if len(masters) else None
+    def _row(self, item: int, is_sure: bool = False) -> int | None:
+        """Returns the first row of the master of an item; None if it has none, or several if one must be sure."""
+        rows = self.masters_of(item)
+        if not len(rows) or is_sure and not self._are_equal(rows):
+            return None
+        return int(rows[0])
 
     def _are_equal(self, masters: Numbers) -> bool:
-        return len({*self.first_masters[masters].tolist()}) <= 1
-
-    def _sure_row(self, item: int) -> int | None:
-        """Returns the row of the master of an item; None if it has no master, or several."""
-        masters = self.masters_of(item)
-        return self._row(masters) if self._are_equal(masters) else None
+        return len({*self.rows["items"].hashes[masters].tolist()}) <= 1
 
     def read(self, letters: Sequence[str]) -> Iterator[Item]:
         """Yields all items in order of names, in which their classes by value are given. Those of totals alone are
@@ -180,7 +175,7 @@ class Reader:
                 self.numbers["ready"] += 1
             except Left as left:
                 kind, line, *faults = left.args
-                value = self.masters.value(self._sure_row(item))
+                value = self.masters.value(self._row(item, is_sure=True))
                 name, rows = self.names[item], len(moves.lines)
                 self.tables[kind].name("item", line, name, faults, rows, value)
                 became[item] = WITH_ITEM
@@ -195,7 +190,7 @@ class Reader:
 
         @functools.cache
         def price_of(item: int) -> Fraction | None:
-            return self.masters.price(self._sure_row(item))
+            return self.masters.price(self._row(item, is_sure=True))
 
         return together(
             controls_of(table, price_of, self.words.factors)

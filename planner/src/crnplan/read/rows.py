@@ -10,7 +10,6 @@ from typing import Protocol
 
 import numpy as np
 
-from ..remarks import Remark
 from .amounts import AmountReader
 from .blocks import DATES, Block, Codes, CodedColumn, read_blocks
 from .cells import Cell, CellFault, Flags, Numbers, fault
@@ -69,35 +68,17 @@ class Rows(Block):
         """Returns the names of items by their codes."""
         return [*map(str, self.columns["item"].distinct)]
 
-    def firsts(self, good: Flags) -> Numbers:
-        """Returns for each good row the first good one with the same cells, and for others themselves. They are compared by
+    def twins(self, good: Flags) -> dict[int, int]:
+        """Returns the good rows that have the same cells as one above them, each with the first such one. They are compared by
         hashes of 64 bits: in a million rows, two different ones collide once in 37 million files.
         """
-        firsts = np.arange(len(self))
         rows = np.flatnonzero(good)
         _, places, which = np.unique(
             self.hashes[rows], return_index=True, return_inverse=True
         )
-        firsts[rows] = rows[places[which]]
-        return firsts
-
-    def twins(self, good: Flags) -> dict[int, int]:
-        """Returns the good rows that are the same as one above them, each with the first such one."""
-        firsts = self.firsts(good)
-        again = np.flatnonzero(firsts != np.arange(len(self)))
-        return dict(zip(again.tolist(), firsts[again].tolist()))
-
-    def long(self, row: int) -> Remark:
-        """Returns what is wrong with a row that has more cells than the heading."""
-        cells, _ = self.wide[row]
-        return Remark(
-            "long",
-            {
-                "cells": cells,
-                "columns": self.sheet.width,
-                "sign": self.sheet.sign,
-            },
-        )
+        firsts = rows[places[which]]
+        is_again = firsts != rows
+        return dict(zip(rows[is_again].tolist(), firsts[is_again].tolist()))
 
     def cell(self, role: str, row: int) -> Cell:
         """Returns the value of a row's cell; the empty text if the table has no such column."""
@@ -136,7 +117,10 @@ class Rows(Block):
         wrong."""
         for row in np.flatnonzero(~self.good & ~self.other).tolist():
             if row in self.wide:
-                yield row, ("", self.wide[row][1], self.long(row))
+                cells, text = self.wide[row]
+                columns, sign = self.sheet.width, self.sheet.sign
+                wrong = fault("", text, "long", cells=cells, columns=columns, sign=sign)
+                yield row, wrong
                 continue
             name = self.cell("item", row)
             yield row, fault("item", name, "unprintable name" if name else "no item")
@@ -174,9 +158,9 @@ def date_reader(table: KeptTable, amounts: Collection[str] = ()) -> DateReader:
     rules = table.sheet.rules
     reader = DateReader(rules.date_formats, rules.every, rules.day_first)
     for role in DATES:
-        if role in table.sheet.columns and role not in amounts:
-            reader.look_at_name(table.sheet.columns[role].name)
-        reader.look(table.counts(role))
+        column = table.sheet.columns.get(role)
+        if column and role not in amounts:
+            reader.look(table.counts(role), column.name)
     return reader
 
 

@@ -9,7 +9,7 @@ from pathlib import Path
 from ..errors import Fault, RefusedFaults
 from ..remarks import Remark
 from .marks import faults_of_where, marks_of
-from .headings import find_columns
+from .columns import find_columns
 from .items import Reading
 from .opening import LOCK, Table, opened
 from .sources import FILE_BITS, Sheet, TextSheet, refused

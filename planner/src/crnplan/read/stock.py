@@ -332,7 +332,11 @@ def read_holdings(
                 readers[kind] = known[kind]
             else:
                 readers[kind] = _Reader(kind, sheet, words, prices, packs)
-    _check_asked(readers.values())
+    faults = list[Fault]()
+    for reader in readers.values():
+        faults += map(reader.rows.sheet.fault_of, reader.asked)
+    if faults:
+        raise RefusedFaults(faults)
     stock, on_order = readers.get(STOCK), readers.get(ON_ORDER)
     arrivals = defaultdict[str, list[Arrival]](list)
     quantities = dict[str, Quantity]()
@@ -353,15 +357,6 @@ def read_holdings(
         stock.as_of if stock else None,
         on_order.filed if on_order else {},
     )
-
-
-def _check_asked(readers: Iterable[_Reader]) -> None:
-    """Raises RefusedFaults with all that must be asked of the tables."""
-    faults = list[Fault]()
-    for reader in readers:
-        faults += map(reader.rows.sheet.fault_of, reader.asked)
-    if faults:
-        raise RefusedFaults(faults)
 
 
 def _said_by(

@@ -6,7 +6,7 @@ from __future__ import annotations
 
 import contextlib
 from collections import Counter
-from collections.abc import Iterable, Mapping
+from collections.abc import Iterable, Mapping, Sequence
 from dataclasses import dataclass, field, replace
 from fractions import Fraction
 from functools import partial
@@ -18,7 +18,6 @@ from ..remarks import Remark, Value, joined
 from ..store.jobs import Workers
 from .amounts import AMOUNTS, AmountReader
 from .blocks import (
-    Block,
     Codes,
     Filed,
     Piece,
@@ -28,7 +27,7 @@ from .blocks import (
     ranges_of,
     read_blocks,
     read_range,
-    write_block,
+    write_blocks,
 )
 from .cells import Cell, Unreadable, text_of
 from .columns import MONEY
@@ -59,23 +58,7 @@ class FiledTable:
     rows: int = 0
     blank: int = 0
 
-    def add(self, before: int, block: Filed) -> None:
-        """Adds the next block of the table."""
-        for role, counts in block.seen.items():
-            self.seen.setdefault(role, Counter()).update(counts)
-        block.seen = {}
-        self.blocks.append((before, block))
-        self.rows, self.blank = self.rows + block.rows, self.blank + block.blank
-
-    def add_blocks(
-        self, blocks: Iterable[Block], before: int, stem: Path, parts: int
-    ) -> None:
-        """Writes blocks into files whose names begin so, by part of the items, and adds them to the table."""
-        for number, block in enumerate(blocks):
-            path = stem.with_name(f"{stem.name}-{number}")
-            self.add(before, write_block(block, path, parts))
-
-    def add_ranges(self, ranges: Iterable[RangeRead], before: int) -> None:
+    def add(self, ranges: Iterable[RangeRead], before: int) -> None:
         """Adds the ranges of a file of the table. Raises RefusedFaults for the first one that has faults."""
         lines = 0
         for part in ranges:
@@ -84,7 +67,12 @@ class FiledTable:
                     [replace(fault, line=lines + fault.line) for fault in part.faults]
                 )
             for block in part.blocks:
-                self.add(before + lines, block)
+                for role, counts in block.seen.items():
+                    self.seen.setdefault(role, Counter()).update(counts)
+                block.seen = {}
+                self.blocks.append((before + lines, block))
+                self.rows += block.rows
+                self.blank += block.blank
             lines += part.lines
 
     def counts(self, role: str) -> dict[Cell, int]:
@@ -100,28 +88,24 @@ class FiledTable:
         ]
 
 
-@dataclass(frozen=True)
-class CataloguePart:
-    """The tables of a part of the items, by kind, with where their rows are."""
+# The tables of a part of the items, by kind, with where their rows are.
+CataloguePart = Mapping[str, tuple[Sheet, Sequence[Piece]]]
 
-    tables: Mapping[str, tuple[Sheet, list[Piece]]]
 
-    @classmethod
-    def of(
-        cls, tables: Mapping[str, FiledTable], number: int, kinds: Iterable[str]
-    ) -> CataloguePart:
-        """Returns the part of a number of some of the tables."""
-        return cls(
-            {kind: (tables[kind].sheet, tables[kind].pieces(number)) for kind in kinds}
-        )
+def part_of(
+    tables: Mapping[str, FiledTable], number: int, kinds: Iterable[str]
+) -> CataloguePart:
+    """Returns the part of a number of some of the tables."""
+    return {kind: (tables[kind].sheet, tables[kind].pieces(number)) for kind in kinds}
 
-    def rows(self) -> dict[str, Rows]:
-        """Returns the rows of all tables, which share the names of items."""
-        names = Codes()
-        tables = dict[str, Rows]()
-        for kind, (sheet, pieces) in self.tables.items():
-            tables[kind] = Rows(sheet, map(Piece.read, pieces), names)
-        return tables
+
+def rows_of_part(part: CataloguePart) -> dict[str, Rows]:
+    """Returns the rows of all tables, which share the names of items."""
+    names = Codes()
+    tables = dict[str, Rows]()
+    for kind, (sheet, pieces) in part.items():
+        tables[kind] = Rows(sheet, map(Piece.read, pieces), names)
+    return tables
 
 
 def read_tables(
@@ -146,16 +130,18 @@ def read_tables(
         ((*key, part), (*words[key], part)) for key in ranges for part in ranges[key]
     )
     read = dict(workers.answers(read_range, asked))
-    for (kind, place), file in files.items():
-        key, before, table = (kind, place), place << FILE_BITS, tables[kind]
+    for key, file in files.items():
+        kind, place = key
         with file.unchanged():
             if key in words:
                 done = [read[(*key, part)] for part in ranges[key]]
                 again = partial(read_range, *words[key])
-                table.add_ranges(closed_ranges(ranges[key], done, again), before)
+                found = [*closed_ranges(ranges[key], done, again)]
             else:
                 blocks = read_blocks(file, file.rows())
-                table.add_blocks(blocks, before, room / f"{kind}-{place}", parts)
+                stem = room / f"{kind}-{place}"
+                found = [RangeRead(0, write_blocks(blocks, stem, parts))]
+            tables[kind].add(found, place << FILE_BITS)
     return tables
 
 

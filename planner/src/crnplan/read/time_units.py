@@ -17,7 +17,7 @@ from ..remarks import Remark, Value
 from .cells import Cell, Unreadable
 from .columns import DAYS
 from .moves import receipts_in
-from .table_files import FiledTable, CataloguePart, WholeTables
+from .table_files import FiledTable, WholeTables, part_of, rows_of_part
 from .rows import Rows
 from .tables import TableReader
 from .times import TimeReader
@@ -71,8 +71,8 @@ def agreed_unit(
     agreeing = Counter[str]()
     receipts = 0
     for number in range(parts):
-        part = CataloguePart.of(tables, number, ("items", "orders"))
-        for stated, days in seen_times(part.rows(), whole):
+        part = part_of(tables, number, ("items", "orders"))
+        for stated, days in seen_times(rows_of_part(part), whole):
             agreeing[unit_of(stated, days)] += 1
             receipts += len(days)
     count = agreeing.total()

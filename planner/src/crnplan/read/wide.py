@@ -36,6 +36,7 @@ LEAST_PERIODS = 2
 LINE_BITS = 23
 # An item whose name only begins like a total is an item.
 WHOLE_TOTAL = re.compile(rf"(?:{TOTAL.pattern})\W*", re.IGNORECASE)
+ZERO = re.compile(r"-?0+([.,]0*)?")
 EMPTY_CELLS = "empty cells"  # the code of what is said of these
 # Days without a column in between are no gap: a shop is closed on them.
 MOST_CLOSED = 6
@@ -50,11 +51,6 @@ def reader_of(sheet: Sheet) -> DateReader | None:
         if sum(map(reader.is_date, sheet.heading)) >= LEAST_PERIODS:
             return reader
     return None
-
-
-def is_zero(text: str) -> bool:
-    """Returns whether a text says 0."""
-    return re.fullmatch(r"-?0+([.,]0*)?", text) is not None
 
 
 def period_of_days(days: Sequence[Day]) -> str:
@@ -115,7 +111,7 @@ class WideSheet(Sheet):
                 # What is empty before the first filled cell is the time before the item.
                 texts = [text_of(own[place]) for place in self.order]
                 below = [*itertools.dropwhile(operator.not_, texts)]
-                zeros += sum(map(is_zero, below))
+                zeros += sum(ZERO.fullmatch(text) is not None for text in below)
                 empty += below.count("")
         self.hidden = self.sheet.hidden
         if zeros and empty and self.rules.empty is None:
