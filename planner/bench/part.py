@@ -63,7 +63,7 @@ def page(folder: Path, jobs: int) -> None:
     """Writes the page of all items."""
     from crnplan.show.catalogue_page import report
 
-    report(folder / PLAN, jobs=jobs)
+    report(folder / PLAN)
 
 
 def today(folder: Path, jobs: int) -> None:

@@ -70,7 +70,7 @@ def calls(
         "trajectories": (crn.trajectories, {**run, "periods": 2}),
         "run": (scenario.run, {"program": program}),
         "long_run": (scenario.long_run, {"program": program, "keys": 2}),
-        "report": (crn.report, {"folder": plan.path, "program": program, "jobs": 1}),
+        "report": (crn.report, {"folder": plan.path, "program": program}),
         "read_config": (crn.read_config, {"path": plan.path / "found.toml"}),
     }
 

@@ -290,7 +290,7 @@ paths, plan = make(folder / "files", 40).paths, str(folder / "plan")
 commands = [["plan", str(paths["demand"]), str(paths["items"]), str(paths["orders"]), "--out", plan,
              "--jobs", "1", "--program", program],
             ["curve", plan, "--jobs", "1"], ["backtest", plan, "--jobs", "1"],
-            ["report", plan, "--jobs", "1", "--program", program]]
+            ["report", plan, "--program", program]]
 with install_recorder("numba:compile") as recorder:
     for sys.argv[1:] in commands:
         try:

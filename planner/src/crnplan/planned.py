@@ -448,8 +448,6 @@ class Plan(Result):
         items: Iterable[str | SupportsIndex] = (),
         *,
         orders: OrdersToday | None = None,
-        jobs: int | None = None,
-        cluster: Scheduler | None = None,
     ) -> Path:
         """Writes report.html, and pages of items, into the folder of the plan: see `report`.
 
@@ -459,21 +457,10 @@ class Plan(Result):
             Items that get pages of their own.
         orders : OrdersToday, optional
             What `orders_today` gave.
-        jobs : int, from 1 to 1,024, optional
-            How many processes work; by default one for each processor.
-        cluster : str or distributed.Client, optional
-            The address of a Dask scheduler, or a client, whose workers work in place of processes.
 
         Returns
         -------
         Path
             That of report.html.
         """
-        return report(
-            self._folder,
-            items,
-            orders=orders,
-            jobs=jobs,
-            cluster=cluster,
-            program=self.program,
-        )
+        return report(self._folder, items, orders=orders, program=self.program)

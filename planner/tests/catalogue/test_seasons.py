@@ -13,7 +13,6 @@ import pytest
 
 import crnplan as crn
 from crnplan.plan.catalogue import planned_folder
-from crnplan.plan import swings
 from crnplan.plan.learned import PRIOR_WINDOW, SEASONS
 from crnplan.show.verdicts import VERDICTS
 from planner.tests.conftest import Command
@@ -83,23 +82,6 @@ def test_levels_by_month(room: Path) -> None:
     pd.testing.assert_frame_equal(plan.loc[plain], flat.loc[plain])
     assert not (room / "flat/levels.csv").exists()
     assert crn.open_plan(room / "flat").levels.empty
-
-
-def test_what_would_change_the_answer(
-    room: Path, monkeypatch: pytest.MonkeyPatch
-) -> None:
-    """Cases of other laws are of the whole year: if no law differs, each item costs and meets what it is planned for, but
-    for the rounding of rough theory."""
-    monkeypatch.setattr(swings, "CASES", ((swings.DEMAND, 10), (swings.LEADS, 10)))
-    with planned_folder(room / "plan") as folder:
-        item, answer = folder.item("warm-09")
-        swing = swings.swing_on(item, answer, folder.settings)
-    chosen, today = answer.chosen, answer.today
-    assert today is not None and len(answer.calendar) > 11
-    for row in swing.rows:
-        assert row[swings.KEPT] == pytest.approx(chosen.cost, rel=0.005)
-        assert row[swings.TODAY] == pytest.approx(today.cost, rel=0.005)
-        assert row[swings.KEPT_FILL] == pytest.approx(chosen.fill, abs=0.002)
 
 
 def test_what_is_said(room: Path) -> None:

@@ -162,9 +162,7 @@ def levels(
     """Returns s and S of the items of a plan of which the first ones, with hostile names, are below s, and of
     one more some are owed."""
     monkeypatch.setattr(made_catalogue, "made_pair", supplied)
-    path = add_made_plan(
-        planner.front, ITEMS, names=NAMES, has_curve=False, has_swings=False
-    )
+    path = add_made_plan(planner.front, ITEMS, names=NAMES, has_curve=False)
     table = crn.open_plan(path).decisions.set_index("item")
     levels = {
         name: (int(row.s_chosen), int(row.S_chosen)) for name, row in table.iterrows()

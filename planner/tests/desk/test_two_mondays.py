@@ -154,7 +154,7 @@ def test_two_mondays(
         monkeypatch.setattr(place, "now", lambda: clock["now"])
     monkeypatch.setattr(made_catalogue, "made_pair", packed)
     monkeypatch.setattr(Front, "read", lambda front: None)  # for the next plan
-    path = add_made_plan(planner.front, ITEMS, has_curve=False, has_swings=False)
+    path = add_made_plan(planner.front, ITEMS, has_curve=False)
     decisions = crn.open_plan(path).decisions.set_index("item")
     levels = {
         str(name): (int(row.s_chosen), int(row.S_chosen))
@@ -197,7 +197,7 @@ def test_units_of_files_of_stock_are_not_those_of_masters(
     """A unit that is stated for files of stock would count that of masters again: nothing is ordered by it."""
     monkeypatch.setattr(kept, "now", lambda: f"{FIRST} 08:00:00")
     monkeypatch.setattr(Front, "read", lambda front: None)  # for the next plan
-    path = add_made_plan(planner.front, ITEMS, has_curve=False, has_swings=False)
+    path = add_made_plan(planner.front, ITEMS, has_curve=False)
     names = crn.open_plan(path).decisions["item"]
     drop_stock(planner, Monday(dict.fromkeys(names, 0), []), FILES[1])
     assert Shown(planner, day=FIRST).lines

@@ -225,7 +225,7 @@ def test_catalogues_with_stated_laws(
     assert {"I-002", "I-005"} <= {*orders.item}
     curve = plan.curve(jobs=1).policies
     assert "I-005" in {*curve.item}
-    page = plan.report(["I-005"], jobs=1).read_text("utf-8")
+    page = plan.report(["I-005"]).read_text("utf-8")
     assert "The laws of demand of 2 items are stated" in page
     status, output, errors = crnplan(
         *("backtest", tmp_path / "one", "--record", 40, "--every", 10, "--jobs", 1)

@@ -39,7 +39,6 @@ from crnplan.plan.answer import (
 from crnplan.plan.catalogue import ANSWERS, TOTALS, Planned, PlannedFolder
 from crnplan.plan.how import Settings
 from crnplan.plan.survey import Survey
-from crnplan.plan.swings import CASES, SWINGS, Swing, drawn_items
 from crnplan.plan.totals import Totals
 from crnplan.read.catalogue_reading import (
     ADD_ITEM,
@@ -53,7 +52,7 @@ from crnplan.read.items import Reject
 from crnplan.read.item import Item
 from crnplan.read.parts import ITEM, REJECT
 from crnplan.remarks import Remark
-from crnplan.store.stored import Store, sealed
+from crnplan.store.stored import Store
 from crnplan.store.work import Work
 from planner.tests.show.page_reader import Page
 
@@ -83,15 +82,14 @@ def made_folder(
     items: int,
     names: Sequence[str] = (),
     has_curve: bool = True,
-    has_swings: bool = True,
     change: tuple[Item, Answer | Remark] | None = None,
     currency: str = "",
 ) -> Path:
     """Makes a folder with so many planned items, with its tables and its page, and returns it.
 
     The first items are called as `names` say, the others P00000 and so on. One item in twelve more is left out. Figures
-    follow from the number of items alone. `has_curve` adds an exchange curve, `has_swings` what would change the
-    answer, `change` one more item, and money may be in a currency.
+    follow from the number of items alone. `has_curve` adds an exchange curve, `change` one more item, and money
+    may be in a currency.
     """
     source = random.Random(items)
     called = [*names, *(f"P{number:05}" for number in range(len(names), items))]
@@ -116,8 +114,6 @@ def made_folder(
             if has_curve:
                 keep_curve(answers, made_curve(pairs))
             its = PlannedFolder(path, read, answers, planned)
-            if has_swings:
-                keep_made(folder, its)
             with writing_tables(folder, its) as write:
                 write([*its.answers()])
             write_catalogue(folder, its, Survey.of(its, MOST_ROWS), (), ())
@@ -143,26 +139,6 @@ def write_read(
 def made_answer(name: str, answers: dict[str, Answer | Remark]) -> Answer | Remark:
     """Answers what is asked by what was made."""
     return answers[name]
-
-
-def keep_made(folder: Folder, planned: PlannedFolder) -> None:
-    """Keeps what would change the answer: in each case each drawn item costs a tenth more than planned, and a fifth more
-    of its demand is not met at once. The best policy costs what the chosen one does as planned.
-    """
-    with contextlib.closing(Store(folder.store(SWINGS), Swing)) as kept:
-        drawn = drawn_items(planned, Survey.of(planned))
-        for name, digest in drawn.items():
-            answer = planned.store.answer(name)
-            assert isinstance(answer, Answer)
-            assert answer.today is not None
-            today, cost, fill = (
-                1.1 * answer.today.cost,
-                answer.chosen.cost,
-                1 - 1.2 * (1 - answer.chosen.fill),
-            )
-            swing = Swing(((today, 1.1 * cost, cost, fill),) * len(CASES))
-            kept.keep([sealed(Swing, name, digest, swing)])
-        kept.finish(drawn.items(), {})
 
 
 def made_run(

@@ -12,13 +12,9 @@ import pandas as pd
 import pytest
 
 import crnplan as crn
-from crnplan.show.board import Board, ClassRow
 from crnplan.show.catalogue_tables import reasons_of
-from crnplan.drawing.rendering import Money, Unit, rendered
-from crnplan.plan.answer import CHEAPER, DEARER, RUN, SAME, THEORY, Answer
-from crnplan.plan.catalogue import planned_folder
-from crnplan.plan.drawn import EstimatedSum
-from crnplan.plan.swings import CaseSum, Swings
+from crnplan.drawing.rendering import Money, Unit
+from crnplan.plan.answer import CHEAPER, DEARER, RUN, SAME, THEORY
 from crnplan.read.columns import periods_a_year
 from crnplan.read.item import NEW
 from crnplan.read.items import Reject
@@ -95,125 +91,6 @@ def test_classes_are_those_of_pandas(large: Path) -> None:
         assert numbers(met) == pytest.approx([*shares], abs=0.06)
         values = own[["value_today", "value_chosen"]] / 1e6
         assert numbers(value) == pytest.approx([*values], abs=0.006)
-
-
-def cells_of(row: list[str], unit: float, beyond_unit: float) -> list[float]:
-    """Returns the numbers of a case, as money and as a share: cost, saving, service, and what is saved beyond."""
-    cost, saved, met, beyond = numbers(" ".join(row[1:]))
-    return [cost * unit, saved * unit, met / 100, beyond * beyond_unit]
-
-
-def case_of(answers: list[Pair], what: str) -> list[float]:
-    """Returns what a case comes to by the figures that were made, in a year: cost, saving, service, and beyond. A cost of
-    stock or delay changes its part of the cost alone, which is worked out here as by hand.
-    """
-    cost, saving, asked, unmet, more = 0.0, 0.0, 0.0, 0.0, 0.0
-    for item, answer in answers:
-        changes = []
-        for figures, own in (
-            (answer.today, answer.cost_today),
-            (answer.chosen, answer.cost_chosen),
-        ):
-            orders, stock = 9 * figures.orders, 0.6 * figures.stock
-            parts = {
-                "stock": stock,
-                "delay": max(0.0, figures.cost - orders - stock),
-                "orders": orders,
-            }
-            name = what.partition(" of ")[2].partition(" ")[0]
-            part = parts[name] * own / sum(parts.values()) if name else figures.cost / 2
-            changes.append((0.2 if "+" in what or not name else -0.2) * part)
-        cost += answer.cost_chosen + changes[1]
-        saving += answer.saving + changes[0] - changes[1]
-        more += 0.1 * answer.chosen.cost
-        asked += float(item.price or 0) * answer.law.mean
-        unmet += (
-            (1 if "cost" in what else 1.2)
-            * float(item.price or 0)
-            * answer.law.mean
-            * (1 - answer.chosen.fill)
-        )
-    return [YEAR * cost, YEAR * saving, 1 - unmet / asked, YEAR * more]
-
-
-def test_what_would_change_the_answer(large: Path, tmp_path: Path) -> None:
-    """What each case costs, saves and serves is that of all items: to a twentieth if some are drawn, else exactly."""
-    said = "From 120 items:"
-    for folder, items in ((large, 600), (made_folder(tmp_path / "plan", 12), 12)):
-        with planned_folder(folder) as planned:
-            answers = [
-                (item, answer)
-                for item, answer in planned.answers()
-                if isinstance(answer, Answer)
-            ]
-        page = Page(folder / "report.html")
-        heading, plain, *cases = page.tables["What would change the answer"]
-        unit, beyond_unit = (
-            1e6 if "million" in words else 1e3 if "thousand" in words else 1
-            for words in heading[1::3]
-        )
-        assert len(answers) == items
-        assert len(cases) == 8
-        planned_cost, planned_saving, *_ = cells_of(plain, unit, beyond_unit)
-        wanted = [
-            YEAR * sum(answer.cost_chosen for _, answer in answers),
-            YEAR * sum(answer.saving for _, answer in answers),
-        ]
-        assert [planned_cost, planned_saving] == pytest.approx(wanted, abs=0.51 * unit)
-        for row in cases:
-            close = 0.05 if items == 600 else 1e-4
-            *money, beyond = (
-                one
-                for place, one in enumerate(cells_of(row, unit, beyond_unit))
-                if place != 2
-            )
-            *known, wanted_beyond = (
-                one for place, one in enumerate(case_of(answers, row[0])) if place != 2
-            )
-            assert money == pytest.approx(known, rel=close, abs=0.51 * unit)
-            assert beyond == pytest.approx(
-                wanted_beyond, rel=close, abs=0.51 * beyond_unit
-            )
-            assert numbers(row[3]) == pytest.approx(
-                [100 * case_of(answers, row[0])[2]], abs=0.06
-            )
-        assert (said in page.words) == (items == 600)
-
-
-def test_what_is_not_known_well_enough(tmp_path: Path) -> None:
-    """A figure whose standard error is above a tenth of it is not printed, and a line says why. A service is not said if
-    no demand is known by which it is measured, and said of what is not met."""
-    near, far = EstimatedSum(100.0, 10.0), EstimatedSum(100.0, 10.1)
-    unmet = EstimatedSum(0.04, 0.003)
-    planned = (
-        EstimatedSum(90.0),
-        EstimatedSum(50.0),
-        EstimatedSum(0.0),
-        EstimatedSum(0.125, 0.001),
-    )
-    cases = [
-        CaseSum("", 10, *planned, 0),
-        CaseSum("demand", 12, near, far, far, EstimatedSum(0.04, 0.005), 0),
-        CaseSum("demand", 8, near, near, near, unmet, 2),
-        CaseSum("lead", 8, near, near, near, None, 0),
-    ]
-    everything = ClassRow("all", 500, 50.0, (0.9, 0.96), (1.0, 2.0))
-    board = Board(
-        Money("", 2), 1.0, True, everything, [], [], 1, Swings(cases, 120, 30, 0.82)
-    )
-    (tmp_path / "page.html").write_text(rendered("swings.html", {"board": board}))
-    page = Page(tmp_path / "page.html")
-    assert page.tables["What would change the answer"][1:] == [
-        ["as planned", "90", "50", "87.5%", "0"],
-        ["demand +20%", "100", "not known", "not known", "not known"],
-        ["demand \u221220%", "100", "100", "96.0%", "100"],
-        ["lead times \u221220%", "100", "100", "-", "100"],
-    ]
-    assert page.words.endswith(
-        " From 120 items: 30 that carry 82% of all costs, and 90 drawn from the others. No standard error is above a tenth. "
-        "Not known: its standard error is above a tenth of it. Up to 2 of these items have no plan in a case, and follow "
-        "the others."
-    )
 
 
 def hand_pair(name: str = "it", **facts: Any) -> Pair:

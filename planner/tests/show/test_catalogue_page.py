@@ -369,10 +369,7 @@ def test_page_of_a_plan(tmp_path: Path, program: Path, crnplan: Command) -> None
     status, output, errors = crnplan(
         "report", plan, "--item", name, "--program", program
     )
-    assert status == 0
-    assert [line.split(",")[0] for line in errors.splitlines()] == [
-        f"{done} of 6 items (0 kept)" for done in range(7)
-    ]
+    assert (status, errors) == (0, "")
     assert output.split() == [str(file_of(plan, name)), str(plan / "report.html")]
     assert {
         unquote(address) for address in Page(plan / "report.html").links.values()
@@ -383,3 +380,17 @@ def test_page_of_a_plan(tmp_path: Path, program: Path, crnplan: Command) -> None
     )
     assert (status, output) == (2, "")
     assert "A-999" in errors
+
+
+def test_stores_of_earlier_versions(tmp_path: Path) -> None:
+    """A folder with a store that crnplan no longer makes has its page, and loses the store when it is planned again. A
+    file of the user stays."""
+    folder = made_folder(tmp_path / "plan", 3)
+    with own_folder(folder, CATALOGUE) as own:
+        old = own.store("kept/swings.sqlite")
+        old.write_bytes(b"old")
+    (folder / "kept/swings.txt").write_text("mine", "utf-8")
+    assert crn.report(folder).is_file() and old.is_file()
+    made_folder(folder, 3)
+    assert not old.exists() and crn.report(folder).is_file()
+    assert (folder / "kept/swings.txt").read_text("utf-8") == "mine"

@@ -202,7 +202,7 @@ def stocked(tmp_path: Path, monkeypatch: pytest.MonkeyPatch) -> crn.Plan:
     """Returns a made plan, beside tables of stock and of what is on order, in which the test runs."""
     monkeypatch.chdir(tmp_path)
     folder = tmp_path / "plan"
-    made_folder(folder, 60, has_curve=False, has_swings=False, currency="EUR")
+    made_folder(folder, 60, has_curve=False, currency="EUR")
     names = crn.Plan(folder).decisions.item
     pd.DataFrame({"item": names, "stock": 3}).to_csv("stock.csv", index=False)
     coming = {"item": names[:40], "quantity": 30, "due": "2026-12-09"}

@@ -219,6 +219,9 @@ def retired_option(command: str, flag: str) -> str:
     options = COMMANDS.get(command, {}).get("options", ())
     kind = flag.strip("-").replace("-", "_")
     keys = {word.flag: word for word in known_words().values() if word.key}
+    said = RETIRED.get(f"{command} {flag}")
+    if said:
+        return f"{flag} is no option any more: {said}"
     if "tables" in options and kind in OF_PLANS:
         return f"{flag} is no option any more: name the file, or say {kind}=FILE"
     if "stated" not in options or flag not in keys:

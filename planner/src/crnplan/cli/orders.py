@@ -53,8 +53,6 @@ def report(
     anyway: bool,
     items: tuple[str, ...],
     xlsx: Path | None,
-    jobs: int | None,
-    cluster: str | None,
     program: str | None,
     **asked: Any,
 ) -> int:
@@ -64,15 +62,7 @@ def report(
     if xlsx:
         crn.Plan(folder).to_excel(xlsx, orders)
         click.echo(xlsx)
-    page = crn.report(
-        folder,
-        items,
-        orders=orders,
-        jobs=jobs,
-        cluster=cluster,
-        program=program,
-        progress=True,
-    )
+    page = crn.report(folder, items, orders=orders, program=program)
     for name in items:
         click.echo(file_of(folder, name))
     click.echo(page)

@@ -50,7 +50,7 @@ def command_on(
 
 
 def asked_commands(desk: Desk, out: str, after: str) -> str:
-    """Returns the commands that plan as the desk does, and compute what would change the answer."""
+    """Returns the commands that plan as the desk does, and write its page."""
     planning = command_on(
         desk,
         "plan",

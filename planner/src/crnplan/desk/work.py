@@ -134,7 +134,7 @@ def read(asked: dict[str, Any], reading: crn.Reading, settings: crn.Settings) ->
 
 
 def plan(asked: dict[str, Any], reading: crn.Reading, settings: crn.Settings) -> None:
-    """Plans the files of a desk into a folder, and computes what would change the answer."""
+    """Plans the files of a desk into a folder, and writes the page with the orders by the stock of the masters."""
     if not asked["after"]:
         settings = replace(settings, least_gain=None)
     files, others = files_of(asked)
@@ -150,7 +150,7 @@ def plan(asked: dict[str, Any], reading: crn.Reading, settings: crn.Settings) ->
         program=asked["program"],
         progress=True,
     )
-    crn.report(asked["out"], program=asked["program"], progress=True)
+    crn.report(asked["out"])
 
 
 def test(asked: dict[str, Any], reading: crn.Reading, settings: crn.Settings) -> None:

@@ -1,6 +1,6 @@
-"""Draws the items of a plan from which sums over all of them are estimated.
+"""Draws the items from which sums over all of them are estimated.
 
-Those that cost most are taken for certain, and some of the others by chance.
+The largest ones are taken for certain, and some of the others by chance.
 
 Source: Cochran, Sampling Techniques, 1977, chapters 6 (ratios) and 9A (chances in proportion to size); Ohlsson,
 Sequential Poisson sampling, Journal of Official Statistics 14, 1998, pages 149 to 162.
@@ -15,9 +15,7 @@ from typing import Any, NamedTuple, TypeVar
 from ..chances import Floats
 from ..store.digests import number_of
 
-MOST = 120  # items that are taken and drawn together
-MOST_TAKEN = 80  # of these, since they carry a share of all costs
-SHARE = 0.8
+SHARE = 0.8  # of all sizes, which items that are taken carry
 BITS = 64  # of a random number
 Entry = TypeVar("Entry", bound=tuple[Any, ...])
 
@@ -35,13 +33,12 @@ class DrawnItems(NamedTuple):
 
 
 class Draws:
-    """Takes items with their sizes, which are what they cost, one by one, and keeps few of them: the greatest, and those
-    that chance draws first. It does not matter in which order they come."""
+    """Takes items with their sizes, one by one, and keeps few of them: the greatest, and those that chance draws first.
+    It does not matter in which order they come."""
 
-    def __init__(self, most: int | None = None, most_taken: int | None = None) -> None:
-        """Prepares to take and draw at most so many together, of which at most so many are taken for certain; by
-        default `MOST` and `MOST_TAKEN`."""
-        self._most, self._most_taken = most or MOST, most_taken or MOST_TAKEN
+    def __init__(self, most: int, most_taken: int) -> None:
+        """Prepares to take and draw at most so many together, of which at most so many are taken for certain."""
+        self._most, self._most_taken = most, most_taken
         self._greatest = list[tuple[float, str]]()
         self._first = list[tuple[float, str, float]]()
 
@@ -86,35 +83,13 @@ def _keep(heap: list[Entry], entry: Entry, most: int) -> None:
         heapq.heapreplace(heap, entry)
 
 
-class EstimatedSum(NamedTuple):
-    """A figure of all items with its standard error, which is infinite if too little is known."""
-
-    value: float
-    error: float = 0.0
-
-    def is_known(self, least: float = 0.0) -> bool:
-        """Returns whether its standard error is at most a tenth of it, or `least`."""
-        return self.error <= max(abs(self.value) / 10, least)
-
-    def plus(self, amount: float) -> EstimatedSum:
-        return self._replace(value=self.value + amount)
-
-
-def estimated(
-    parts: Floats, sizes: Floats, chances: Floats, total: float
-) -> EstimatedSum:
+def estimated(parts: Floats, sizes: Floats, chances: Floats, total: float) -> float:
     """Returns the sum of a figure over items that were not taken for certain, from its parts of those that were drawn.
 
     It follows the sum of their sizes, which is known for all of these items: `total`. `parts`, `sizes` and `chances` are
-    by drawn item.
+    by drawn item. It is 0 if fewer than two were drawn.
     """
-    count = len(parts)
-    if total <= 0:
-        return EstimatedSum(0.0)
-    known = float((sizes / chances).sum()) if count else 0.0
-    if count < 2 or known <= 0:
-        return EstimatedSum(0.0, math.inf)
-    ratio = float((parts / chances).sum()) / known
-    rest = (parts - ratio * sizes) / chances * (total / known)
-    variance = count / (count - 1) * float(((1 - chances) * rest**2).sum())
-    return EstimatedSum(ratio * total, math.sqrt(variance))
+    if total <= 0 or len(parts) < 2:
+        return 0.0
+    ratio = (parts / chances).sum() / (sizes / chances).sum()
+    return float(ratio * total)

@@ -189,7 +189,7 @@ def met_on_past(
         known = math.fsum(figures)
         if not others:
             return known
-        return known + estimated(np.array(parts), own_sizes, chances, left).value
+        return known + estimated(np.array(parts), own_sizes, chances, left)
 
     asked = summed(
         [offer.asked for offer in taken], [offers[name].asked for name in others]

@@ -23,7 +23,7 @@ from ..remarks import Remark, Value
 from ..policies import Levels as Levels
 from ..money import Costs
 from ..runs import Scenario
-from ..theory.lattice import lattice_of, rough_lattice, shape_of, theory_on
+from ..theory.lattice import lattice_of, shape_of, theory_on
 from ..theory.long_run import LongRun
 from ..words import advice, sentence
 from .answer import Figures, Laws
@@ -56,9 +56,7 @@ def rounded(levels: Levels | None, box: int) -> Levels | None:
 @dataclass(frozen=True, eq=False)
 class Terms:
     """What theory takes of an item: its facts, its costs as whole rates of a box with their scale, its laws in boxes,
-    and the settings. With `cells` theory is rough, which takes less time: the largest demand and order have together at
-    most so many steps. No run has such terms, so their numbers may be beyond the program's ranges. `known` is a theory
-    of the same laws and other costs, whose tables are used.
+    and the settings. `known` is a theory of the same laws and other costs, whose tables are used.
     """
 
     item: Item
@@ -68,7 +66,6 @@ class Terms:
     demand: Law
     lead: Law
     returns: Law | None
-    cells: int | None = field(default=None, kw_only=True)
     known: LongRun | None = field(default=None, kw_only=True)
 
     @property
@@ -200,7 +197,7 @@ class Terms:
             and self.lead.values[-1] <= MOST_LEAD
             and (today is None or today[1] <= MOST_ITEMS)
         )
-        if fits or self.cells:
+        if fits:
             return made
         return made.changed()  # which checks it, and names all faults
 
@@ -229,12 +226,7 @@ class Terms:
         scenario, (point, level) = self.scenario(), self.levels or (0, 0)
         feasible = feasible_of(self.bounds, self.item.box, self.demand)
         shape = shape_of(self.for_theory(), feasible.gap(1) - 1)
-        if self.cells is None:
-            lattice = lattice_of(scenario, shape, level - point, MOST_GAPS)
-        elif self.known:
-            lattice = self.known.step, self.known.exact
-        else:
-            lattice = rough_lattice(shape, self.cells)
+        lattice = lattice_of(scenario, shape, level - point, MOST_GAPS)
         theory = theory_on(scenario, shape, *lattice, feasible, self.known)
         return theory.counting(self.counts_periods)
 

@@ -14,7 +14,6 @@ from ..read.items import Reject
 from ..remarks import Remark
 from .answer import Answer, Laws
 from .catalogue import Decided, PlannedFolder
-from .drawn import DrawnItems, Draws
 from .totals import Totals
 
 NO_LAWS = Laws(1, Law((), ()), Law((), ()), None)
@@ -23,11 +22,6 @@ NO_LAWS = Laws(1, Law((), ()), Law((), ()), None)
 def saving_of(answer: Answer | Remark) -> float | None:
     """Returns what an item saves that is compared with a policy of today; None for others."""
     return answer.saving if isinstance(answer, Answer) and answer.is_compared else None
-
-
-def size_of(answer: Answer) -> float:
-    """Returns how large an item is when some are drawn: what it costs a period with today's levels and with new ones."""
-    return (answer.cost_today or 0.0) + answer.cost_chosen
 
 
 class Survey:
@@ -40,11 +34,7 @@ class Survey:
         self._folder, self.classes = folder, defaultdict[str, Totals](Totals)
         self.faults, self.asked = list[Reject](), list[float]()
         # The greatest decisions so far, the least of them first, by their size and their place from the end.
-        self._most, self._kept, self._draws = (
-            most,
-            list[tuple[float, int, Decided]](),
-            Draws(),
-        )
+        self._most, self._kept = most, list[tuple[float, int, Decided]]()
         self._masters, self._periods = folder.counts["files"]["items"]["name"], float(
             periods_a_year(folder.every)
         )
@@ -67,12 +57,6 @@ class Survey:
         """Returns the decisions with the greatest saving or loss, the first of equal ones: items that are planned or have
         no order."""
         return [decided for *_, decided in sorted(self._kept, reverse=True)]
-
-    @property
-    def drawn(self) -> DrawnItems:
-        """Returns some of the items that are compared, from which sums over all of these are estimated. Their sizes are
-        what they cost with today's levels and with the new ones."""
-        return self._draws.drawn(self.totals["cost_today"] + self.totals["cost_chosen"])
 
     def seen(self, answers: Iterable[Decided]) -> Iterator[Decided]:
         """Yields all items with their answers, and notes each."""
@@ -109,7 +93,6 @@ class Survey:
     def _note(self, item: Item, answer: Answer | Remark) -> None:
         if isinstance(answer, Answer) and answer.is_compared:
             self.classes[item.category].add(item, answer)
-            self._draws.add(item.name, size_of(answer))
 
     def _keep(self, place: int, item: Item, answer: Answer | Remark) -> None:
         """Keeps a decision that is one of the greatest so far, but not its laws, which take most of the memory."""

@@ -12,10 +12,8 @@ from typing import NamedTuple
 
 from ..plan.answer import CHOSEN, SAME, TODAY
 from ..plan.catalogue import PlannedFolder
-from ..plan.drawn import EstimatedSum
 from ..plan.survey import Survey
 from ..plan.totals import Totals
-from ..plan.swings import LEAST_ERROR, CaseSum, Swings, kept_swings
 from ..read.columns import periods_a_year
 from ..drawing.rendering import Money, Unit
 from ..drawing.plots import Scale
@@ -103,7 +101,6 @@ class Board:
     rows: Sequence[ClassRow]
     parts: Sequence[CostPart]
     changed: int
-    swings: Swings | None
 
     @property
     def unit(self) -> Unit:
@@ -141,37 +138,6 @@ class Board:
     def held(self) -> float:
         """Returns what the new levels save of holding stock."""
         return next(part.saving for part in self.parts if part.name == "stock")
-
-    @property
-    def least_error(self) -> float:
-        """Returns the standard error of a service that counts as known, however little is not met."""
-        return LEAST_ERROR
-
-    @property
-    def _cases(self) -> Sequence[CaseSum]:
-        return self.swings.cases if self.swings else ()
-
-    @property
-    def case_unit(self) -> Unit:
-        """Returns the unit of what these cases cost and save: that of savings, which are smaller, unless costs had too
-        many digits in it."""
-        amounts = []
-        for case in self._cases:
-            amounts += [
-                case.cost._replace(value=case.cost.value / MOST_TIMES),
-                case.saving,
-            ]
-        return self._unit_of(amounts)
-
-    @property
-    def beyond_unit(self) -> Unit:
-        """Returns the unit of what levels that are chosen anew would save beyond."""
-        return self._unit_of([case.beyond for case in self._cases])
-
-    def _unit_of(self, amounts: Sequence[EstimatedSum]) -> Unit:
-        return self.money.unit(
-            self.periods * amount.value for amount in amounts if amount.is_known()
-        )
 
     @property
     def picture(self) -> ServicePicture | None:
@@ -236,5 +202,4 @@ def board_of(folder: PlannedFolder, survey: Survey, money: Money) -> Board:
         rows=rows_of(survey.classes, periods, by_value),
         parts=parts_of(totals, periods),
         changed=totals.compared - totals.verdicts[SAME],
-        swings=kept_swings(folder, survey),
     )

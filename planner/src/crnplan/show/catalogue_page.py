@@ -19,16 +19,13 @@ from ..crnsim.program import find_program
 from ..curve.parts import Point
 from ..curve.exchange_curve import kept_curve, said_of
 from ..store.digests import sha256
-from ..store.files import Folder, own_folder
-from ..store.clusters import Scheduler
-from ..store.means import Means
+from ..store.files import IN_KEPT, Folder, own_folder
 from ..plan.answer import CHOSEN, TODAY, Answer
 from ..plan.backtest.catalogue import past_of
 from ..plan.catalogue import Decided, PlannedFolder, planned_folder
 from ..plan.item import depth_of
 from ..plan.how import Settings
 from ..plan.survey import Survey, saving_of
-from ..plan.swings import keep_swings
 from ..plan.totals import Totals
 from ..read.catalogue_reading import CATALOGUE, missing_of
 from ..read.frames import name_of
@@ -66,6 +63,7 @@ SUMMARY, PAGE, FOUND = "summary.txt", "report.html", "found.toml"
 SCENARIO = "scenario.toml"  # of the run of a plan's only item
 CATALOGUE_FILES = (DECISIONS, DETAILS, REJECTS, SUMMARY, PAGE, FOUND)
 ITEMS = "items"  # the folder of their pages
+OLD = f"{IN_KEPT}swings."  # how stores begin that earlier versions have kept
 MOST_ROWS = 5_000  # items in the table
 ROWS_A_GROUP = 45  # which are laid out together; the first group is printed
 MOST_SAVINGS = 15
@@ -322,7 +320,8 @@ def write_catalogue(
 ) -> str:
     """Writes what a planned catalogue has beside its tables, the summary and the page, and returns the summary."""
     folder.write(REJECTS, rejects_of(planned.read.rejects(survey.faults)).lines)
-    folder.remove(CHANGES, LATENESS, LEVELS)
+    old = [name for name in folder.names if name.startswith(OLD)]
+    folder.remove(CHANGES, LATENESS, LEVELS, *old)
     if planned.planned.earlier:
         folder.write(CHANGES, changes_of(planned).lines)
     if any(item_months(planned)):
@@ -379,18 +378,14 @@ def report(
     items: Iterable[str | SupportsIndex] = (),
     *,
     orders: OrdersToday | None = None,
-    jobs: int | None = None,
-    cluster: Scheduler | None = None,
     program: str | Path | None = None,
-    progress: bool = False,
 ) -> Path:
     """Writes the page of a planned folder, report.html, and returns its path.
 
-    The page has what the plan saves a year, with service and stock before and after, what would change that, the exchange
-    curve if `exchange_curve` has drawn it, the greatest savings, what was left out and why, and a table of all items, which
-    sorts and filters; above 5,000 items, of those with the greatest saving or loss. It is one file that asks for no other;
-    the same plan and orders give the same bytes. What would change the answer is computed for at most 120 items, and kept in
-    the folder.
+    The page has what the plan saves a year, with service and stock before and after, the exchange curve if
+    `exchange_curve` has drawn it, the greatest savings, what was left out and why, and a table of all items, which sorts and
+    filters; above 5,000 items, of those with the greatest saving or loss. It is one file that asks for no other; the same plan
+    and orders give the same bytes.
 
     Parameters
     ----------
@@ -401,14 +396,8 @@ def report(
     orders : OrdersToday, optional
         The orders that `Plan.orders_today` gives. Without them the page has those of today by the stock of the masters, if
         these have one, and says that it is not known what is on order.
-    jobs : int, from 1 to 1,024, optional
-        How many processes work; by default one for each processor.
-    cluster : str or distributed.Client, optional
-        The address of a Dask scheduler, or a client, whose workers work in place of processes.
     program : str or Path, optional
         The path of crnsim: see `find_program`.
-    progress : bool, default False
-        Shows on standard error how many items are done.
 
     Returns
     -------
@@ -425,7 +414,7 @@ def report(
 
     Examples
     --------
-    >>> crn.report(plan.path, jobs=1).name
+    >>> crn.report(plan.path).name
     'report.html'
     """
     path = Path(folder)
@@ -437,6 +426,5 @@ def report(
         for name in map(name_of, items):
             write_item(own, planned, name, program)
         survey = Survey.of(planned, MOST_ROWS)
-        keep_swings(own, planned, survey, Means(jobs, cluster, shown=progress))
         own.write(PAGE, catalogue_page(planned, survey, orders))
     return path / PAGE

@@ -221,14 +221,6 @@ def lattice_of(
     return min(range(least, int(COARSER * least) + 1, base), key=blur), False
 
 
-def rough_lattice(shape: Shape, cells: int) -> tuple[int, bool]:
-    """Returns the step of a lattice that is rough, and whether it is exact: the finest on which the largest demand and
-    the best order, or the least one, have together at most so many cells."""
-    largest = shape.high + max(shape.order, shape.least_gap)
-    step = shape.base * max(1, math.ceil(largest / (cells * shape.base)))
-    return step, step == shape.base
-
-
 def theory_on(
     scenario: ScenarioData,
     shape: Shape,
