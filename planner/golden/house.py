@@ -250,11 +250,9 @@ def read_rows(folder: Path) -> Figures:
         }
 
 
-def curve_rows(folder: Path, program: str, jobs: int, **budget: float) -> list[Figures]:
+def curve_rows(folder: Path, jobs: int, **budget: float) -> list[Figures]:
     """Returns the points of the exchange curve under a budget, the named ones first."""
-    return records(
-        crn.exchange_curve(folder, jobs=jobs, program=program, **budget).frame
-    )
+    return records(crn.exchange_curve(folder, jobs=jobs, **budget).frame)
 
 
 def candidate_rows(folder: Path, names: Iterable[str]) -> dict[str, Figures]:

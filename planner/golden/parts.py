@@ -74,7 +74,7 @@ def planned(
         folder = Path(room) / "plan"
         house.plan_catalogue(files, folder, program, jobs, **settings)
         items, curve = house.plan_rows(folder), house.curve_rows(
-            folder, program, jobs, fill=0.97
+            folder, jobs, fill=0.97
         )
         value = next(it["value"] for it in curve if it["point"] == "today")
         orders = next(it["orders"] for it in curve if it["point"] == "today")
@@ -86,7 +86,7 @@ def planned(
         points = {
             name: [
                 it
-                for it in house.curve_rows(folder, program, jobs, **its)
+                for it in house.curve_rows(folder, jobs, **its)
                 if it["point"] == "budget"
             ]
             for name, its in budgets.items()

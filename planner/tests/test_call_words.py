@@ -98,7 +98,6 @@ SAME = [
     Same("plan", "columns", {"demand": {"item": "item"}}, None),
     Same("plan", "at_least", None, None),
     Same("curve", "fill", "97%", 0.97),
-    Same("curve", "confirm", np.int64(0), None),
     Same("item", "name", np.int64(1), "1"),
     Same("item", "name", 1.0, "1"),
     Same("orders_today", "stock", pd.Series([3], index=[1]), None),

@@ -36,7 +36,7 @@ WRITING = {
 # Those that need the program, the first two also a plan.
 BY_PROGRAM = {
     "report": "report plan --xlsx OUT.xlsx",
-    "curve": "curve plan --confirm 0 --plot OUT.svg",
+    "curve": "curve plan --plot OUT.svg",
     "run": f"run {EXAMPLE}.toml --out OUT.csv",
 }
 

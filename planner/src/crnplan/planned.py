@@ -305,8 +305,6 @@ class Plan(Result):
         stock_value: float | None = None,
         fill: float | None = None,
         orders: float | None = None,
-        correct: bool = False,
-        confirm: int = 0,
         jobs: int | None = None,
         cluster: Scheduler | None = None,
     ) -> ExchangeCurve:
@@ -316,10 +314,6 @@ class Plan(Result):
         ----------
         stock_value, fill, orders : float, optional
             A budget: the value of the mean stock, the share of demand by value that is met at once, and the orders of a period.
-        correct : bool, default False
-            Has beside each named point what it met on the past.
-        confirm : int, at least 0, default 0
-            Of so many items crnsim counts the stock at each named point.
         jobs : int, from 1 to 1,024, optional
             How many processes work; by default one for each processor.
         cluster : str or distributed.Client, optional
@@ -335,11 +329,8 @@ class Plan(Result):
             stock_value=stock_value,
             fill=fill,
             orders=orders,
-            correct=correct,
             jobs=jobs,
             cluster=cluster,
-            program=self.program,
-            confirm=confirm,
         )
         # The folder may end with this plan, and the curve may be used for longer.
         return drawn.keep() if self.room else drawn

@@ -290,8 +290,8 @@ def test_an_item_without_candidates(
     assert "no room for a table" in sentence(dict(its.parts.left_out())["A-050"])
 
 
-def test_command(plan: Path, crnplan: Command, program: Path) -> None:
-    """Prints the points and what crnsim counts, which is within 2% of theory; the table with --csv; and draws."""
+def test_command(plan: Path, crnplan: Command) -> None:
+    """Prints the points; the table with --csv; and draws."""
     words, picture = [
         "curve",
         plan,
@@ -300,29 +300,20 @@ def test_command(plan: Path, crnplan: Command, program: Path) -> None:
         "--fill",
         "0.95",
     ], plan / "curve.svg"
-    runs = "--confirm", "9", "--program", program, "--plot", picture
-    told = crnplan(*words, *runs)
+    told = crnplan(*words, "--plot", picture)
     assert told.status == 0, told.errors
     said = (
         "18 items are on the curve; 2 are left out, as A-036: it has no price above 0"
     )
-    assert said in told.output and "look at these items" not in told.output
-    lines = told.output.splitlines()
-    table, counted = lines[3:8], lines[-5:]
-    heading = "crnsim: the stock of 9 of 18 items, taken at random, is worth"
-    assert lines[-6] == heading
-    for row, line in zip(table, counted, strict=True):
-        figures = re.findall(r"[\d,]+\.\d+(?=[ ,)])", line)
-        run, error, theory = (float(figure.replace(",", "")) for figure in figures)
-        assert row.startswith(line.split("  ")[0])
-        assert abs(run - theory) < min(0.02 * theory, 5 * error)
+    assert said in told.output
+    table = told.output.splitlines()[3:8]
     point = pd.read_csv(plan / CURVE).set_index("point").loc["budget"]
     assert table[-1].startswith("your budget") and "95.0" in table[-1]
     assert table[-1].split()[2] == f"{point['value']:,.2f}"
     drawing = picture.read_text("utf-8")
     for text in ("your budget: ", "today: ", "one price for all items", "met at once"):
         assert text in drawing
-    told = crnplan(*words, "--confirm", "0", "--csv")
+    told = crnplan(*words, "--csv")
     assert told.status == 0 and told.output == (plan / CURVE).read_text("utf-8")
 
 
@@ -330,7 +321,7 @@ def test_command(plan: Path, crnplan: Command, program: Path) -> None:
 def test_refused_words(
     plan: Path, crnplan: Command, words: list[str], said: str
 ) -> None:
-    told = crnplan("curve", plan, "--jobs", "1", "--confirm", "0", *words)
+    told = crnplan("curve", plan, "--jobs", "1", *words)
     assert told.status == 2 and said in told.errors and told.errors.count("\n") == 1
 
 

@@ -5,11 +5,9 @@ import dataclasses
 import itertools
 import math
 import tracemalloc
-import typing
 from collections.abc import Sequence
 from fractions import Fraction
 from pathlib import Path
-from types import SimpleNamespace
 from typing import Any
 
 import numpy as np
@@ -17,7 +15,7 @@ import pytest
 from hypothesis import given, settings, strategies as st
 
 from crnplan.chances import Floats
-from crnplan.curve import confirmed, exchange
+from crnplan.curve import exchange
 from crnplan.curve.candidates import (
     DEARER,
     PRICES,
@@ -332,7 +330,6 @@ def test_any_parts(
     one, two = chosen_by(items, budget), chosen_by(whole, budget)
     assert one.dearer == two.dearer and one.point == two.point and one.dearer.stock > 0
     assert [*items.policies(one)] == [*whole.policies(two)]
-    assert items.drawn("seed", 5) == whole.drawn("seed", 5)
 
 
 def test_memory_of_many_parts(monkeypatch: pytest.MonkeyPatch) -> None:
@@ -357,20 +354,3 @@ def test_no_share_is_above_a_best_that_costs_nothing(
     monkeypatch.setattr(Items, "least_cost", lambda *_: 0.0)
     point = Point(value=1.0, fill=0.9, orders=1.0, cost=1.0)
     assert gap_of(Items.__new__(Items), point) == math.inf
-
-
-def test_stocks_far_from_theory_are_named(monkeypatch: pytest.MonkeyPatch) -> None:
-    """A point whose stock by runs is more than 5% from theory's is named."""
-    folder = SimpleNamespace(
-        settings=SimpleNamespace(seed="a"),
-        currency=SimpleNamespace(text="{:.2f}".format),
-        item=lambda name: (SimpleNamespace(review=1), None),
-    )
-    drawn = [(0, "one"), (1, "other")]
-    items = SimpleNamespace(drawn=lambda seed, count: drawn[:count], count=9)
-    gathered = typing.cast(Any, SimpleNamespace(items=items, folder=folder))
-    sums = {"near": (100.0, 101.0, 1.0), "far": (100.0, 120.0, 1.0)}
-    monkeypatch.setattr(confirmed, "sampled_sums", lambda *_: sums)
-    said = {"near": "today", "far": "your budget"}
-    *_, last = confirmed.confirmed(gathered, {}, said, 2, None)
-    assert last.endswith("so look at these items: your budget.")

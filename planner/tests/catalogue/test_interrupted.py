@@ -39,7 +39,7 @@ PLAN, DRAW = [
     *WORDS,
     "--out",
     "plan",
-], "curve plan --fill 0.9 --confirm 0".split()
+], "curve plan --fill 0.9".split()
 # What is killed at random: a command with its words, the file with the answers that it keeps, and its tables.
 KILLED = {
     "plan": (PLAN, ANSWERS, TABLES),

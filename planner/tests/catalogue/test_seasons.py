@@ -244,13 +244,15 @@ def test_after_an_earlier_plan(room: Path, tmp_path: Path, program: Path) -> Non
 
 
 def test_curve(room: Path, tmp_path: Path, program: Path) -> None:
-    """The curve knows of no season: its stocks are those of runs by laws without it."""
+    """The curve knows of no season: its stocks are those of theory by laws without it."""
     folder = Path(shutil.copytree(room / "plan", tmp_path / "plan"))
-    plan = crn.open_plan(folder, program=program)
-    drawn = plan.curve(fill=0.96, confirm=2 * ITEMS, jobs=1)
-    first, *lines = drawn.confirmed
-    assert f"the stock of {2 * ITEMS} of {2 * ITEMS} items" in first
-    assert len(lines) == len(drawn.said) and not any("apart" in it for it in lines)
+    policies = crn.open_plan(folder, program=program).curve(fill=0.96, jobs=1).policies
+    assert len(policies) == 2 * ITEMS
+    with planned_folder(folder) as planned:
+        for name, s, S, value in policies[["item", "s", "S", "value"]].to_numpy():
+            item, _ = planned.item(name)
+            theory = planned.question(item).flat.figures((s // item.box, S // item.box))
+            assert value == pytest.approx(float(item.price or 0) * theory.stock)
 
 
 def test_page_of_an_item(room: Path, tmp_path: Path, program: Path) -> None:

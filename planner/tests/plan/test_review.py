@@ -184,7 +184,7 @@ def test_decisions_pages_and_sums(plan: crn.Plan, tmp_path: Path) -> None:
     with pytest.raises(crn.Refused, match="'I-000' is reviewed once in 4 periods"):
         plan.item("I-000")
     assert plan.item("I-002").text
-    assert plan.curve(confirm=3).frame.shape[0] > 0
+    assert plan.curve().frame.shape[0] > 0
     plan.to_excel(tmp_path / "plan.xlsx")
 
 

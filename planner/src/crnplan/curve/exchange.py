@@ -9,7 +9,6 @@ beside its holding cost buys less stock with more orders.
 """
 from __future__ import annotations
 
-import heapq
 import itertools
 import math
 from collections import Counter
@@ -19,7 +18,6 @@ from typing import Any, NamedTuple
 import numpy as np
 
 from ..chances import Floats, Whole
-from ..store.digests import sha256
 from ..theory.levels import NEAR
 from .candidates import PRICES
 from .parts import (
@@ -36,7 +34,6 @@ from .parts import (
     bounds_of,
     fitting,
     measured,
-    names_of,
     policies_of,
     steps_of,
     stretches_of,
@@ -94,12 +91,6 @@ class Items:
             choice.of_part(start, end - start) for start, end in zip(self.starts, ends)
         )
         return itertools.chain.from_iterable(self.over(policies_of, choices))
-
-    def drawn(self, seed: str, count: int) -> list[str]:
-        """Returns the names of so many items, or of all if there are fewer, drawn as at random: the same in each run."""
-        names = itertools.chain.from_iterable(self.over(names_of))
-        digests = ((sha256(f"{seed}\nconfirm\n{name}"), name) for name in names)
-        return sorted(name for _, name in heapq.nsmallest(count, digests))
 
     def ladder(self, dearer: Dearer = AS_IS) -> Ladder:
         """Returns the steps from the least service to the most, perhaps with dearer orders or stock."""

@@ -1,7 +1,4 @@
-"""Draws the exchange curve of a planned folder: stock value against the share of demand, by value, met at once.
-
-For a sample of items crnsim counts the stock of the named points beside theory.
-"""
+"""Draws the exchange curve of a planned folder: stock value against the share of demand, by value, met at once."""
 from __future__ import annotations
 
 import itertools
@@ -30,11 +27,9 @@ from ..table import DataTable, Json, Result, aligned
 from ..theory.levels import NEAR
 from ..words import PREMISE, advised, sentence
 from .budget import Budget, OffCurve, chosen_by, gap_of, with_more_orders
-from .confirmed import confirmed
 from .exchange import Items
 from .gathered import Gathered, gather
 from .parts import CurveChoice, Point
-from .past import CurvePast
 from .pictures import exchange_plot
 
 if TYPE_CHECKING:
@@ -50,7 +45,6 @@ class CurvePoint(NamedTuple):
     point: Point
     gap: float = 0.0
     price: float | None = None
-    past: float | None = None
 
 
 COLUMNS = columns_of("curve", "curve")
@@ -72,29 +66,21 @@ SAID = {
 TOGETHER = "chosen together"  # the point of a plan with one price
 KEPT = "currency", "table", "text", "policy_table"  # of a curve by its folder
 DRAWN = "curve"  # the fact with the points, beside the answers of a plan
-MET = "Met at once: the share of demand by value."
-BY_THEORY = (
-    "figures are by theory, rounded and unproved, of the long run under the laws fitted to the histories, "
-    f"{PREMISE}."
-)
 NOTES = (
+    "Met at once: the share of demand by value. All figures are by theory, rounded and unproved, of the long run under "
+    f"the laws fitted to the histories, {PREMISE}.",
     "One price for a unit of value that is not met at once chooses the policy of each item, with setup and holding as "
     "in the masters. Points with more orders or fewer lie beside the curve.",
     "Above the best: setup and holding are at most so much above the least of all policies that were looked at with "
     "the same service (and no more orders or stock, where these are bounded too).",
-)
-TRIED_SO = (
-    "Met on the past: on quarters of the records, each planned from the others, with the price of the point; today's "
-    "levels as they are."
 )
 
 
 @dataclass(frozen=True, eq=False, repr=False)
 class ExchangeCurve(Result):
     """The curve: its points by price, the points that have a name with their gaps, what each is for a reader, and why
-    others are missing. `written` names the point whose policies are written: those of the `choice`. `confirmed` has
-    lines on what crnsim counts. If the points were tried on the past of so many items, `tried`, `past` has what they met
-    there. Tables are read from the folder when they are first asked for; a pickle has them all.
+    others are missing. `written` names the point whose policies are written: those of the `choice`. Tables are read
+    from the folder when they are first asked for; a pickle has them all.
     """
 
     gathered: Gathered
@@ -104,9 +90,6 @@ class ExchangeCurve(Result):
     missing: dict[str, str]
     written: str
     choice: CurveChoice
-    confirmed: list[str]
-    past: Mapping[str, float]
-    tried: int
 
     @property
     def content(self) -> list[list[dict[str, Json]]]:
@@ -115,12 +98,8 @@ class ExchangeCurve(Result):
 
     @property
     def named(self) -> dict[str, Point]:
-        """Returns the points that have a name by what they are, with what they met on the past."""
-        named = dict[str, Point]()
-        for name, (point, _) in self.points.items():
-            met = f", {self.past[name]:.1%} on the past" if self.past else ""
-            named[self.said[name] + met] = point
-        return named
+        """Returns the points that have a name by what they are."""
+        return {self.said[name]: point for name, (point, _) in self.points.items()}
 
     def keep(self) -> ExchangeCurve:
         """Reads all tables, and returns the curve, which no longer needs the folder."""
@@ -143,14 +122,12 @@ class ExchangeCurve(Result):
     def table(self) -> DataTable:
         """Returns the points: named ones first, then the curve by rising price."""
         rows = [
-            CurvePoint(name, point, gap, past=self.past.get(name))
-            for name, (point, gap) in self.points.items()
+            CurvePoint(name, point, gap) for name, (point, gap) in self.points.items()
         ]
         rows += [
             CurvePoint(ON_CURVE, point, price=price) for price, point in self.curve
         ]
-        columns = [it for it in COLUMNS if self.past or it.name != "past"]
-        return self.gathered.folder.table(columns, rows)
+        return self.gathered.folder.table(COLUMNS, rows)
 
     @cached_property
     def text(self) -> str:
@@ -171,8 +148,6 @@ class ExchangeCurve(Result):
             self.notes,
             f'{CURVE} has the curve; {POLICIES} has the policies of "{policies}", in {folder.path}.',
         ]
-        if self.confirmed:
-            lines += ["", *self.confirmed]
         return "\n".join(lines) + "\n"
 
     def _rows(self) -> list[list[str]]:
@@ -190,8 +165,6 @@ class ExchangeCurve(Result):
                 "above the best",
             ]
         ]
-        if self.past:
-            rows[0].insert(3, "met on the past")
         for name, (point, gap) in self.points.items():
             rows.append(
                 [
@@ -203,17 +176,12 @@ class ExchangeCurve(Result):
                     gap_text(gap),
                 ]
             )
-            if self.past:
-                rows[-1].insert(3, f"{self.past[name]:.2%}")
         return rows
 
     @property
     def notes(self) -> str:
         """Returns what the figures mean."""
-        if not self.past:
-            return "\n".join((f"{MET} All {BY_THEORY}", *NOTES))
-        tried = f"{TRIED_SO} Tried: {self.tried:,} items."
-        return "\n".join((tried, f"{MET} All other {BY_THEORY}", *NOTES))
+        return "\n".join(NOTES)
 
     def plot(self) -> Picture:
         """Draws the curve with its named points."""
@@ -315,14 +283,8 @@ def said_of(name: str, settings: Settings) -> str:
     return SAID[name]
 
 
-def draw(
-    gathered: Gathered,
-    budget: Budget,
-    confirm: int,
-    program: str | Path | None,
-    on_past: CurvePast | None = None,
-) -> ExchangeCurve:
-    """Returns the curve with its points, and perhaps what crnsim counts, and what was met on the past."""
+def draw(gathered: Gathered, budget: Budget) -> ExchangeCurve:
+    """Returns the curve with its points."""
     choices, missing = points_of(gathered, budget)
     items = gathered.items
     points = dict[str, tuple[Point, float]]()
@@ -341,13 +303,8 @@ def draw(
     # If neither of today's figures is on the curve, the policies are those of its beginning.
     written, *_ = *named, ON_CURVE
     choice = choices[written] if choices else items.ladder().with_price(0)
-    sample = confirmed(gathered, choices, said, confirm, program) if confirm else []
-    curve, past, tried = curve_points(items), dict[str, float](), 0
-    if on_past:
-        past, tried = on_past.met(choices)
-    return ExchangeCurve(
-        gathered, curve, points, said, missing, written, choice, sample, past, tried
-    )
+    curve = curve_points(items)
+    return ExchangeCurve(gathered, curve, points, said, missing, written, choice)
 
 
 def gap_text(gap: float) -> str:
@@ -384,11 +341,8 @@ def exchange_curve(
     stock_value: float | None = None,
     fill: float | None = None,
     orders: float | None = None,
-    correct: bool = False,
     jobs: int | None = None,
     cluster: Scheduler | None = None,
-    program: str | Path | None = None,
-    confirm: int = 0,
     progress: bool = False,
 ) -> ExchangeCurve:
     """Returns the exchange curve of a planned folder: how much service a stock of some value can give.
@@ -409,17 +363,10 @@ def exchange_curve(
         A budget: the share of demand by value that is met at once, at least.
     orders : float, optional
         The orders of a period at most, above 0. With it alone the service is today's.
-    correct : bool, default False
-        Has beside each named point what it met on the past: on quarters of the records of up to 1,000 items, each planned
-        from the others. A `fill` is then met there, by the price that `plan` finds for items that are planned together.
     jobs : int, from 1 to 1,024, optional
         How many processes work; by default one for each processor. The bytes are the same.
     cluster : str or distributed.Client, optional
         The address of a Dask scheduler, or a client, whose workers work in place of processes.
-    program : str or Path, optional
-        The path of crnsim: see `find_program`.
-    confirm : int, at least 0, default 0
-        Of so many items crnsim counts the stock at each named point.
     progress : bool, default False
         Shows on standard error how many items are done.
 
@@ -433,9 +380,7 @@ def exchange_curve(
     Raises
     ------
     Refused
-        For a folder without a plan, a budget that no policies keep, and fewer than 30 items that can be tested on their past.
-    ProgramError
-        If a run by crnsim fails.
+        For a folder without a plan, and a budget that no policies keep.
 
     Examples
     --------
@@ -446,16 +391,13 @@ def exchange_curve(
     ['bolt', 'nut', 'washer']
     """
     budget, path = Budget(stock_value, fill, orders), Path(folder)
-    means, on_past = Means(jobs, cluster, shown=progress), None
+    means = Means(jobs, cluster, shown=progress)
     with (
         planned_folder(path) as planned,
         own_folder(path, CATALOGUE, (CURVE, POLICIES)) as own,
         gather(own, planned, means) as gathered,
     ):
-        if correct:
-            on_past = CurvePast(own, gathered, means)
-            budget = on_past.aimed(budget)
-        drawn = draw(gathered, budget, confirm, program, on_past)
+        drawn = draw(gathered, budget)
         for name, lines in (
             (CURVE, drawn.table.lines),
             (POLICIES, drawn.policy_lines),

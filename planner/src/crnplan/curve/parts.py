@@ -374,8 +374,3 @@ def policies_of(part: CurvePart, choice: CurveChoice) -> list[Chosen]:
     levels = hulls.point[vertices], hulls.level[vertices]
     columns = *levels, value, 1 - unmet / part.demand, orders, cost
     return [*map(Chosen, part.names, *(column.tolist() for column in columns))]
-
-
-def names_of(part: CurvePart) -> tuple[str, ...]:
-    """Returns the names of the items of the part."""
-    return part.names

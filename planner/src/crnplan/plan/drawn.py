@@ -8,7 +8,6 @@ Sequential Poisson sampling, Journal of Official Statistics 14, 1998, pages 149 
 from __future__ import annotations
 
 import heapq
-import math
 from collections.abc import Mapping
 from typing import Any, NamedTuple, TypeVar
 

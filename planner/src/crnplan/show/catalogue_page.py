@@ -63,7 +63,8 @@ SUMMARY, PAGE, FOUND = "summary.txt", "report.html", "found.toml"
 SCENARIO = "scenario.toml"  # of the run of a plan's only item
 CATALOGUE_FILES = (DECISIONS, DETAILS, REJECTS, SUMMARY, PAGE, FOUND)
 ITEMS = "items"  # the folder of their pages
-OLD = f"{IN_KEPT}swings."  # how stores begin that earlier versions have kept
+# How the names of stores begin that earlier versions have kept.
+OLD = f"{IN_KEPT}swings.", f"{IN_KEPT}curve_"
 MOST_ROWS = 5_000  # items in the table
 ROWS_A_GROUP = 45  # which are laid out together; the first group is printed
 MOST_SAVINGS = 15
