@@ -8,6 +8,7 @@ import re
 import signal
 import sys
 from concurrent.futures import ProcessPoolExecutor
+from dataclasses import replace
 from fractions import Fraction
 from pathlib import Path
 
@@ -23,11 +24,12 @@ from crnplan.crnsim.program import (
     run_all,
     run_program,
 )
-from crnplan.crnsim.report import ReportRow, counting, csv_of, pooled, read_rows
+from crnplan.crnsim.report import ReportRow, csv_of, pooled, read_rows
 from crnplan.runs import Report
 from crnplan.errors import ProgramError, Refused
 from crnplan.formats import COSTS
 from crnplan.runs import Scenario
+from crnplan.scenario import Costs
 from planner.tests.conftest import Command, cases_beside, script
 from planner.tests.decide.answers import changed, rows_of_costs
 
@@ -232,7 +234,8 @@ def test_values_and_counts(two_policies: str, program: Path) -> None:
     assert report.floats().loc["A"].isna().sum() == 2
     scenario = Scenario.parse(two_policies)
     held = [59 + 57 + 55 + 51, 59 + 57 + 76 + 72]
-    runs = [scenario, *(counting(scenario, cost) for cost in COSTS)]
+    alone = [Costs(**{**dict.fromkeys(COSTS, 0), cost: 1}) for cost in COSTS]
+    runs = [scenario, *(replace(scenario, costs=costs) for costs in alone)]
     totals = [[row.total for row in run.run(program=program).rows] for run in runs]
     assert totals == [[222, 296], [0, 1], [0, 21], held, [0, 0]]
 

@@ -31,7 +31,7 @@ from ..toml.documents import shown
 from ..toml.scenarios import MANY, check_tree, name_faults, plain_text
 from ..errors import Fault, ProgramError, Refused, argument
 from ..policies import Policy
-from ..scenario import Costs, ScenarioData
+from ..scenario import ScenarioData
 from ..table import DataTable
 from .program import find_program, run_all
 
@@ -44,7 +44,6 @@ MONEY_COLUMNS = [
     dataclasses.replace(column, kind="exact") if column.unit == "money" else column
     for column in COLUMNS
 ]
-NO_COSTS = Costs(0, 0, 0, 0)
 # Columns whose cell may be `-`, which stands for no figure.
 MAY_LACK = ("diff_var", "cov")
 
@@ -196,12 +195,6 @@ def pooled(
             )
         )
     return rows
-
-
-def counting(scenario: ScenarioData, cost: str) -> ScenarioData:
-    """Returns a scenario with one cost at 1 and the others at 0."""
-    costs = dataclasses.replace(NO_COSTS, **{cost: 1})
-    return dataclasses.replace(scenario, costs=costs, scale=Fraction(1))
 
 
 def parts_of(scenario: ScenarioData) -> list[ScenarioData]:

@@ -84,23 +84,15 @@ def allowed_by(question: Question, laws: int = LAWS) -> list[tuple[Law, Law]]:
     return [*zip(map(question.coming, drawn), leads)]
 
 
-def by_prices(
-    terms: Terms,
-    theory: LongRun,
-    prices: Sequence[float],
-    orders: Sequence[float] | float = 0.0,
-    stock: Sequence[float] | float = 0.0,
-) -> PricedPolicies:
-    """Returns the best policies of a theory of an item for prices of a box that is not met at once, in money, if each
-    order and each box of stock perhaps costs more than its setup and holding: their gaps; and their levels, stock, unmet
-    demand and orders, in boxes. There is none if no policy is feasible.
+def by_prices(terms: Terms, theory: LongRun, prices: Sequence[float]) -> PricedPolicies:
+    """Returns the best policies of a theory of an item for prices of a box that is not met at once, in money: their gaps;
+    and their levels, stock, unmet demand and orders, in boxes. There is none if no policy is feasible.
     """
     if not len(theory.every_gap(0, theory.most)):
         return np.empty(0, int), np.empty((4, 0))
     setup, holding = (terms.money(terms.rates[name]) for name in ("setup", "holding"))
     costs = np.empty((3, len(prices)))
-    costs[0], costs[1] = setup + np.array(orders), holding + np.array(stock)
-    costs[2] = prices
+    costs[0], costs[1], costs[2] = setup, holding, prices
     return best_policies(theory, costs)
 
 

@@ -3,7 +3,7 @@ from __future__ import annotations
 
 import dataclasses
 import math
-from collections.abc import Callable, Mapping, Sequence
+from collections.abc import Mapping, Sequence
 from dataclasses import dataclass, field
 
 import numpy as np
@@ -17,7 +17,6 @@ from .choice import by_prices
 from .correction import in_blocks
 from .drawn import Draws, DrawnItems, estimated
 from .how import Settings, flat_of
-from .prices import weight_of
 from .question import Levels, NoPolicy, Question, question_of
 
 MOST_TRIED, MOST_TAKEN = (
@@ -152,20 +151,9 @@ def past_of(
     def planned(question: Question) -> list[Levels]:
         return ByPrice(question, prices).pairs
 
-    return tried_with(planned, item, settings, prior, settings.weigh)
-
-
-def tried_with(
-    planned: Callable[[Question], Sequence[Levels]],
-    item: Item,
-    settings: Settings,
-    prior: Prior,
-    weigh: str,
-) -> Offer:
-    """Returns what an item leaves unmet in quarters of its record with policies that are planned from the others."""
     item, on = flat_of(item, settings)
     unmet = in_blocks(item, on, prior, planned, pack=item.bounds.pack)
-    weight = weight_of(item, weigh) / len(item.counts)
+    weight = settings.weight_of(item) / len(item.counts)
     return Offer(weight * sum(item.counts), tuple((weight * unmet).tolist()))
 
 

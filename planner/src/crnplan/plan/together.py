@@ -141,7 +141,7 @@ class Finding:
         self.prior, self.means = prior, means
         self.groups = dict[str, str]()
         units = dict[str, list[float]]()
-        for name, group, unit in self.members():
+        for name, group, unit in members_of(read, settings):
             self.groups[name] = group
             units.setdefault(group, []).append(unit)
         for group in sorted(settings.together.keys() - units.keys()):
@@ -153,14 +153,6 @@ class Finding:
         self.units = {
             group: statistics.median_low(units[group]) for group in sorted(units)
         }
-
-    def members(self) -> Iterator[tuple[str, str, float]]:
-        """Yields in order the name of each item with its group and what a unit of its weight costs to hold."""
-        return members_of(self.read, self.settings)
-
-    def item(self, name: str) -> Item | None:
-        """Returns an item as it is asked."""
-        return self.read.item(name)
 
     def stated(self, group: str) -> str:
         """Returns the word that wants a share of a group."""
@@ -181,7 +173,7 @@ class Finding:
             self.folder.store(kept),
             Offer,
             lambda: ((name, self.read.digest(name, common)) for name in names),
-            self.item,
+            self.read.item,
             (function, self.settings, self.prior, asked),
             "offers",
             self.means,
@@ -299,8 +291,8 @@ def fill_with(held: float, fills: tuple[float, ...], by_fill: Floats) -> float:
     return -math.expm1(float(np.interp(held, rising, np.log1p(-np.array(fills)))))
 
 
-def settled(settings: Settings, **words: Any) -> Settings:
-    """Returns settings, perhaps with other words, without those on which no price depends."""
+def settled(settings: Settings) -> Settings:
+    """Returns settings without those on which no price depends."""
     usual: dict[str, Any] = {
         "level": Settings.level,
         "periods": Settings.periods,
@@ -308,7 +300,7 @@ def settled(settings: Settings, **words: Any) -> Settings:
         "least_gain": None,
         "overruns": None,
     }
-    return dataclasses.replace(settings, **usual | words)
+    return dataclasses.replace(settings, **usual)
 
 
 def prices_of(
