@@ -2,7 +2,6 @@
 from __future__ import annotations
 
 import math
-from dataclasses import replace
 from fractions import Fraction
 from pathlib import Path
 from typing import Any
@@ -16,7 +15,7 @@ from crnplan.money import Currency
 from crnplan.plan.how import NONE
 from crnplan.plan.item import Depth
 from crnplan.plan.offers import Asked, past_of
-from crnplan.plan.packs import remarks_of_packs
+from crnplan.plan.binding import remarks_of_packs
 from crnplan.policies import Policy
 from crnplan.read.bounds import OrderBounds
 from crnplan.show.item_page import ItemWords, item_page
@@ -76,35 +75,11 @@ def test_trials_of_prices_order_in_packs() -> None:
         assert 0 < rounded < exact / 4
 
 
-@pytest.mark.parametrize(
-    "changed, pack",
-    [({}, 7), ({"leads": (1, 3, 2)}, 7), (LARGE, 28_000)],
-    ids=["one lead time", "several", "boxes"],
-)
-def test_what_rounding_costs(
-    changed: dict[str, Any], pack: int, program: Path, monkeypatch: pytest.MonkeyPatch
-) -> None:
-    """It is what a Markov chain says, but for the error of a run. It stands in the answer, and the page says that the stock
-    of the run has no packs."""
-    question = asked(OrderBounds(pack=pack), **changed)
+def test_the_page_of_an_item_in_packs(program: Path) -> None:
+    """The answer says that theory's orders are not rounded, and the page that those of the run are not."""
+    question = asked(OrderBounds(pack=28_000), **LARGE)
     answer, remarks = answer_of(question, program)
-    boxes = pack // question.item.box
-    levels = (level // question.item.box for level in answer.chosen.levels)
-    scenario = question.scenario().with_policies([Policy("chosen", *levels)])
-    plain, period = chain.by_chain(scenario)[0], chain.period
-
-    def rounded(
-        state: chain.State, policy: Policy, *drawn: int
-    ) -> tuple[chain.State, chain.Counted]:
-        position = sum(state)
-        upper = position - (position - policy.S) // boxes * boxes
-        return period(state, replace(policy, S=upper), *drawn)
-
-    monkeypatch.setattr(chain, "period", rounded)
-    monkeypatch.setattr(chain, "MOST_HEIGHT", boxes)
-    more = (chain.by_chain.__wrapped__(scenario)[0] - plain) / float(question.scale)
-    assert more > 0.5
-    assert remarks["rounded orders"]["cost"] == pytest.approx(more, abs=0.2)
+    assert question.item.box > 1 and remarks["rounded orders"] == {"pack": 28_000}
     depth = Depth(question, answer, str(program), laws=4)
     page = item_page(ItemWords(depth, "week", Currency()))
     assert "Their orders go up to S exactly, not to whole packs." in page
@@ -113,12 +88,11 @@ def test_what_rounding_costs(
 def test_what_is_said_of_packs() -> None:
     """It is said of each item whose orders are no whole packs, in boxes as in items."""
     question = asked(OrderBounds(pack=7))
-    (remark,) = remarks_of_packs(question, (3, 9))
-    cost = remark.facts["cost"]
+    (remark,) = remarks_of_packs(question)
     assert sentence(remark) == (
         "orders are rounded up to packs of 7; its costs and shares are those of orders up to S exactly, as in theory and "
-        f"crnsim; rounding changes the cost by {cost:+.2f} a period, by runs of 20,000 periods"
+        "crnsim"
     )
     for pack, times in ((1, 1), (6, 6), (2, 6)):
         item = asked(OrderBounds(pack=pack), counts=tuple(times * it for it in SLOW))
-        assert not [*remarks_of_packs(item, (30, 90))]
+        assert not [*remarks_of_packs(item)]

@@ -79,6 +79,14 @@ def remarks_of_today(question: Question, choice: Choice) -> Iterator[Remark]:
         yield Remark("today stays", question.items(choice.worse) | facts)
 
 
+def remarks_of_packs(question: Question) -> Iterator[Remark]:
+    """Yields that orders are rounded up to packs, as those of theory are not, unless all are whole packs by themselves."""
+    pack, returns = question.bounds.pack, question.returns
+    sizes = *question.demand.values, *(returns.values if returns else ())
+    if question.item.box * math.gcd(*sizes) % pack:
+        yield Remark("rounded orders", {"pack": pack})
+
+
 def remarks_of_bounds(
     question: Question, choice: Choice, bounds: Sequence[Bound]
 ) -> Iterator[Remark]:

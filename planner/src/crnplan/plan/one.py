@@ -54,11 +54,10 @@ from .answer import (
     CheckRun,
     Share,
 )
-from .binding import bounds_of, remarks_of_bounds, remarks_of_today
+from .binding import bounds_of, remarks_of_bounds, remarks_of_packs, remarks_of_today
 from .bounds import COVERAGES
 from .checked_run import RunSample, checked_run
 from .choice import CLOSE, Choice, allowed_by, best_by_price, choice_of, levels_of
-from .packs import remarks_of_packs
 from .how import Settings
 from .question import Levels, NoPolicy, Question, Unplanned, question_of
 from .yearly import PlannedMonth, over_year, verdict_of
@@ -337,7 +336,7 @@ def answer_of(question: Question, choice: Choice, program: str) -> Answer:
             *remarks_of(question, sample, choice),
             *remarks_of_today(question, choice),
             *remarks_of_bounds(question, choice, bounds),
-            *remarks_of_packs(question, choice.levels),
+            *remarks_of_packs(question),
             *remarks_of_damping(question, figures),
         ),
         figures.get(OVERRIDE),
