@@ -76,10 +76,7 @@ def law_figures(law: Any) -> Figures:
 def fitted(counts: Any, leads: Any) -> Figures:
     """Returns the laws of a history by each method, and what its checks find."""
     checks = check_history(counts)
-    tests = {
-        it.name: {"p": it.p, "size": it.size, "least_seen": it.least_seen}
-        for it in checks.tests
-    }
+    tests = {it.name: {"p": it.p, "size": it.size} for it in checks.tests}
     laws = {
         method: law_figures(crn.fit_demand(counts, method=method))
         for method in ("auto", "empirical", "predictive")

@@ -1,18 +1,15 @@
-"""Measures how often the checks of a history warn: false alarms, power, and whether what they say to see is seen.
+"""Measures how often the checks of a history warn: false alarms, and of histories with an effect.
 
     python -m planner.studies.warnings --out planner/studies/warnings.csv    all, in about half an hour
     python -m planner.studies.warnings --small                               a small part, in some seconds
 
 Histories have 26, 52, 104 or 208 periods, in a year of 52, and at least two periods with demand; others are drawn anew.
-There are three parts:
+There are two parts:
 
 - independent: histories of all laws of `planner.studies.laws`. The share with any warning is that of false alarms;
   the share of each test at 5%, and of those with a demand that is named as far above all others, stand beside it.
 - effect: histories with an effect of a given size. `any` is the share with any warning, `own` that with a warning of
   the test for this effect.
-- stated: an independent history of 104 or 208 periods says which size would be seen in 8 of 10 cases. Another one is
-  drawn with this size, and `own` is the share that is seen. `none` is the share of histories that say that no size is
-  seen.
 
 The mean follows a line from 1 - size to 1 + size (trend), a step by `size` after three quarters (shift) or a sine
 (season). Autocorrelated demand is that of `planner.studies.dependence`. Seeds are fixed: [part, place of the case,
@@ -31,7 +28,7 @@ import numpy as np
 import numpy.typing as npt
 import pandas as pd
 
-from crnplan.demand.order_tests import FALSE_ALARMS, TestedHistory, tests_of
+from crnplan.demand.order_tests import FALSE_ALARMS
 from crnplan.demand.outliers import outliers_of
 from crnplan.demand.seasons import seasons_of
 from crnplan.demand.permutation import ROUNDING, Orders
@@ -73,19 +70,12 @@ EFFECTS = [
     for size in sizes
     for law in (("P10",) if kind == "autocorrelation" else ALL)
 ]
-SAID = [
-    (law, kind)
-    for kind in ("autocorrelation", "trend", "season")
-    for law in (CHAINS if kind == "autocorrelation" else ALL)
-]
 SMALL: dict[str, Any] = {  # of `study`
     "names": ("P2", "INT"),
     "effects": (Effect("P10", "autocorrelation", 60), Effect("NB3_9", "trend", 50)),
-    "said": (("P10", "trend"),),
     "periods": (104,),
     "count": 60,
     "of_effect": 40,
-    "of_stated": 30,
 }
 
 
@@ -199,46 +189,12 @@ def power(effect: Effect, periods: int, count: int) -> dict[str, Any]:
     }
 
 
-def stated(law: str, kind: str, periods: int, count: int) -> dict[str, Any]:
-    """Returns how often an effect is seen that is as large as a history says."""
-    random = np.random.default_rng([2, SAID.index((law, kind)), periods])
-    said, seen = [], []
-    for numbers in itertools.islice(
-        histories(lambda: independent(law, random, periods)), count
-    ):
-        facts = TestedHistory(numbers, seasons_of(None, 1, periods, YEAR)[0])
-        size = next(it.least_seen for it in tests_of(facts) if it.name == kind)
-        said.append(size)
-        if size is not None and size != math.inf:
-            seen.append(
-                kind
-                in warned(
-                    p_values(
-                        next(histories(lambda: drawn(law, kind, size, random, periods)))
-                    )
-                )
-            )
-    finite = [it for it in said if it != math.inf]
-    return {
-        "part": "stated",
-        "law": law,
-        "kind": kind,
-        "size": round(100 * float(np.mean(finite))) if finite else 0,
-        "periods": periods,
-        "histories": len(seen),
-        "own": np.mean(seen) if seen else math.nan,
-        "none": 1 - len(finite) / count,
-    }
-
-
 def study(
     names: Iterable[str],
     effects: Iterable[Effect],
-    said: Iterable[tuple[str, str]],
     periods: Iterable[int],
     count: int,
     of_effect: int,
-    of_stated: int,
 ) -> pd.DataFrame:
     """Returns the figures of all parts, a row for each case and number of periods. A part has so many histories."""
     counts = [*periods]
@@ -252,11 +208,6 @@ def study(
         for effect in effects
         for it in of_kind[effect.kind]
     ]
-    rows += [
-        stated(law, kind, it, of_stated)
-        for law, kind in said
-        for it in of_kind["season"]
-    ]
     columns = [
         "part",
         "law",
@@ -266,7 +217,6 @@ def study(
         "histories",
         "any",
         "own",
-        "none",
         *TESTS,
         "outliers",
     ]
@@ -336,36 +286,13 @@ def power_table(rows: pd.DataFrame) -> pd.DataFrame:
     return pd.DataFrame(lines)
 
 
-def stated_table(rows: pd.DataFrame) -> pd.DataFrame:
-    """Returns the mean size that is said to be seen, how often it is seen, and how often none is said to be."""
-    lines = []
-    for (kind, law), its in rows.groupby(["kind", "law"], sort=False):
-        cells = {
-            it[
-                "periods"
-            ]: f"{it['size']}: {percent(it['own'], error_of(it['own'], it['histories']))}"
-            if it["none"] < 0.5
-            else "none"
-            for it in its.to_dict("records")
-        }
-        lines.append(
-            {
-                "effect": kind,
-                "law": law,
-                **{str(it): cell for it, cell in cells.items()},
-            }
-        )
-    return pd.DataFrame(lines)
-
-
 def tables() -> dict[str, str]:
-    """Returns the stored figures for the page: false alarms, power, and what is said to be seen."""
+    """Returns the stored figures for the page: false alarms and power."""
     rows = pd.read_csv(STORED)
     parts = {name: its for name, its in rows.groupby("part")}
     made = {
         "false-alarms": alarm_table(parts["independent"]),
         "power": power_table(parts["effect"]),
-        "stated-power": stated_table(parts["stated"]),
     }
     return {name: markdown(table) for name, table in made.items()}
 
@@ -377,7 +304,7 @@ def tables() -> dict[str, str]:
     type=click.IntRange(8),
     default=HISTORIES,
     show_default=True,
-    help="Of each cell; a quarter of it for what is stated.",
+    help="Of each cell.",
 )
 @click.option(
     "--out",
@@ -389,9 +316,7 @@ def main(small: bool, histories: int, out: Path | None) -> None:
     rows = (
         study(**SMALL)
         if small
-        else study(
-            laws.LAWS, EFFECTS, SAID, PERIODS, histories, histories, histories // 4
-        )
+        else study(laws.LAWS, EFFECTS, PERIODS, histories, histories)
     )
     if out:
         rows.to_csv(out, index=False, float_format="%.4f")

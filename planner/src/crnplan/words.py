@@ -6,7 +6,6 @@ again.
 """
 from __future__ import annotations
 
-import math
 import re
 import tomllib
 from collections.abc import Callable, Iterable, Mapping
@@ -202,10 +201,6 @@ def _policy_today(facts: Facts) -> str:
 
 
 # What follows from the facts of the checks of a history (demand/checks.py).
-STUDIED = {
-    "steady": "Poisson, mean 10",
-    "erratic": "negative binomial, mean 3, variance 9",
-}
 WEEKDAYS = "Monday Tuesday Wednesday Thursday Friday Saturday Sunday".split()
 QUARTERS = (
     "January to March",
@@ -269,31 +264,6 @@ def _since(facts: Facts) -> str:
     )
 
 
-def _unheeded(facts: Facts) -> str:
-    """Returns what was lost in a study by those who did not heed a warning."""
-    effect = f"{facts['effect']} {facts['effect_size']:+}%"
-    if facts["effect"] == "autocorrelation":
-        effect = f"autocorrelation {facts['effect_size'] / 100:g}"
-    elif facts["effect"] == "season":
-        effect = f"season of \u00b1{facts['effect_size']}% in {facts['effect_length']} periods"
-    regret, promise, level = (
-        _percent(facts[name]) for name in ("regret", "promise", "level")
-    )
-    side, error = (
-        "higher" if facts["level"] >= 0 else "lower",
-        "low" if facts["promise"] < 0 else "high",
-    )
-    return (
-        f". In a study ({STUDIED[facts['study']]}; {effect}) such a plan cost {regret} more than the best policy, "
-        f"whose S was {level} {side}, and promised a cost {promise} too {error}"
-    )
-
-
-def _percent(value: float) -> str:
-    """Returns a share in percent, below 10 with a decimal, without its sign."""
-    return f"{abs(value):.1f}%" if abs(value) < 10 else f"{abs(value):.0f}%"
-
-
 # What is found by each test, what follows from that in words, and what to do about it.
 TESTS = {
     "trend": (
@@ -326,12 +296,12 @@ TESTS = {
 
 
 def _heeded(name: str, facts: Facts) -> str:
-    """Returns what to do about a warning, with what was lost in a study by those who did not heed one."""
-    if facts["study"] is not None:
-        return TESTS[name][2].format(since=_since(facts)) + _unheeded(facts)
-    if facts["beside"]:
+    """Returns what to do about a warning."""
+    if name == "autocorrelation" and facts["beside"]:
         return "What the other warnings say may be why"
-    return "High and low periods take turns, so a plan from the table holds too much; ask who orders in turns"
+    if name == "autocorrelation" and facts["at_1"] < 0:
+        return "High and low periods take turns, so a plan from the table holds too much; ask who orders in turns"
+    return TESTS[name][2].format(since=_since(facts))
 
 
 def _largest(facts: Facts) -> str:
@@ -339,31 +309,6 @@ def _largest(facts: Facts) -> str:
     return ", ".join(
         f"{facts[f'demand_{rank}']} in {facts[f'period_{rank}']}" for rank in ranks
     )
-
-
-def _effect(name: str, size: float) -> str:
-    match name:
-        case "autocorrelation":
-            return f"an autocorrelation of {size:g}"
-        case "trend" if size < 1:
-            return f"a trend from {1 - size:.0%} to {1 + size:.0%} of the mean"
-        case "trend":
-            return "a trend from nothing to twice the mean"
-        case "season":
-            return f"a season of \u00b1{size:.0%}"
-    return f"a pattern of weekdays of \u00b1{size:.0%}"
-
-
-def _seen_effects(facts: Facts) -> str:
-    """Returns which effects silent tests would have seen, and which they would not."""
-    seen = [_effect(name, size) for name, size in facts.items() if size != math.inf]
-    unseen = [_effect(name, 1.0) for name, size in facts.items() if size == math.inf]
-    parts = []
-    if seen:
-        parts.append(f"the tests see {listed(seen, 'and')}")
-    if unseen:
-        parts.append(f"not even {listed(unseen, 'and')}")
-    return ", but ".join(parts)
 
 
 def _untested(facts: Facts) -> str:
@@ -396,7 +341,6 @@ DERIVED: dict[str, Derive] = {
     "moves": _moved,
     "policy today": _policy_today,
     "largest": _largest,
-    "seen effects": _seen_effects,
     "what is untested": _untested,
     "far": lambda facts: abs(facts["today"] - facts["mean"]),
     "side": lambda facts: "above" if facts["today"] > facts["mean"] else "below",

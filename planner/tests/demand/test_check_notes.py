@@ -1,33 +1,18 @@
-"""Tests of what is noted of a history: few and large demands, packs, no recent demand; and what tests would see."""
+"""Tests of what is noted of a history: few and large demands, packs, and no recent demand."""
 from __future__ import annotations
 
 import bisect
 import math
-from collections.abc import Sequence
 from typing import Any
 
 import numpy as np
 import pytest
-from scipy import optimize, special, stats
+from scipy import stats
 
 from crnplan.demand.checks import check_history, largest_periods
 from crnplan.demand.outliers import outliers_of, rosner_bound
-from crnplan.demand.permutation import (
-    Orders,
-    autocorrelation_seen,
-    least_seen,
-    season_seen,
-    tilted,
-    trend_seen,
-)
-from crnplan.demand.sample import Sample
 from crnplan.read.dates import period_name
-from planner.studies.warnings import p_value, statistics_of
-from planner.tests.demand.test_checks import CASES, SINE, named, said
-
-RANDOM = np.random.default_rng(8)
-ERRATIC = RANDOM.negative_binomial(1.5, 1 / 3, 104).tolist()
-RARE = np.where(RANDOM.random(104) < 0.2, RANDOM.geometric(1 / 8, 104), 0).tolist()
+from planner.tests.demand.test_checks import CASES, said
 
 
 @pytest.mark.parametrize(
@@ -145,61 +130,3 @@ def test_the_least_outlier(seed: int) -> None:
     pieces = (1_000 * others).tolist()
     assert outliers_of([*pieces, least - 1], 1_000) == []
     assert outliers_of([*pieces, least], 1_000) == [least]
-
-
-def tilted_to(numbers: Sequence[int], mean: float) -> Any:
-    """Returns the chances of distinct numbers, tilted to a mean that is found by its equation."""
-    values, counts = np.unique(numbers, return_counts=True)
-
-    def chances(rate: float) -> Any:
-        return special.softmax(np.log(counts) + rate * values)
-
-    return chances(optimize.brentq(lambda rate: chances(rate) @ values - mean, -20, 20))
-
-
-@pytest.mark.parametrize("kind, size", [("trend", 0.6), ("season", 0.7)])
-@pytest.mark.parametrize("numbers", [ERRATIC, RARE], ids=["erratic", "rare"])
-def test_power(kind: str, size: float, numbers: list[int]) -> None:
-    """The chance that an effect is seen is the share of drawn histories whose own p value is at most the level."""
-    law, level, values = tilted(Sample.of(numbers)), 0.0125, np.unique(numbers)
-    seasons = {"season": np.arange(104) % 52 // 13}
-    bound = Orders(numbers, seasons).bounds(level)[kind]
-    if kind == "trend":
-        stated, effect = trend_seen(law, 104, bound, size), np.linspace(-1, 1, 104)
-    else:
-        stated, effect = season_seen(law, 104, 52, 4, bound, size), SINE[:104]
-    factors, places = np.unique(np.round(1 + size * effect, 3), return_inverse=True)
-    laws = [tilted_to(numbers, factor * np.mean(numbers)) for factor in factors]
-    below = np.cumsum(laws, axis=1)[places, :-1]
-    random, seen = np.random.default_rng(5), 0
-    for _ in range(250):
-        drawn = values[(random.random((104, 1)) > below).sum(axis=1)]
-        seen += p_value(statistics_of(drawn.tolist(), seasons)[kind]) <= level
-    assert stated == pytest.approx(seen / 250, abs=0.1)
-
-
-@pytest.mark.parametrize(
-    "numbers, season", [([3, 4] * 20, 4), ([2, 5] * 4, 2), ([0, 1] * 4, 2)], ids=str
-)
-def test_seasons_that_are_all_of_a_history(numbers: list[int], season: int) -> None:
-    """With two sizes, the largest seasons leave nothing to vary within a part. They are seen if any season is."""
-    test = named(check_history(numbers, season=season), "season")
-    assert test.least_seen == math.inf or test.least_seen <= 1
-    words = tilted(Sample.of(numbers)), len(numbers), season, season
-    assert season_seen(*words, len(numbers) - 1.5, 1.0) == 1
-    assert season_seen(*words, math.inf, 1.0) == 0
-
-
-@pytest.mark.parametrize("size", [0.2, 0.5])
-def test_power_of_autocorrelation(size: float) -> None:
-    """The chance to see an autocorrelation is that of scipy's noncentral chi-squared law."""
-    bound, far = stats.chi2.isf(0.0125, 3), 104 * (size**2 + size**4 + size**6)
-    wanted = stats.ncx2.sf(bound, 3, far)
-    assert autocorrelation_seen(104, 0.0125, size) == pytest.approx(wanted)
-
-
-@pytest.mark.parametrize(
-    "least, seen", [(0.0, 0.05), (0.32, 0.35), (1.0, 1.0), (1.1, math.inf)]
-)
-def test_least_size_that_is_seen(least: float, seen: float) -> None:
-    assert least_seen(lambda size: float(size >= least)) == seen

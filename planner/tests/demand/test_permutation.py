@@ -12,7 +12,7 @@ from scipy import stats
 
 from crnplan.chances import Floats
 from crnplan.demand import permutation
-from crnplan.demand.permutation import Orders, bound_of, centred
+from crnplan.demand.permutation import Orders, centred
 from planner.studies.warnings import p_value, statistics_of
 from planner.tests.conftest import leave_as_written
 
@@ -133,18 +133,6 @@ def test_orders() -> None:
     counts, _, _ = np.histogram2d(drawn[1:].ravel(), numbers * 1199, bins=30)
     squares = ((counts - 1199 / 30) ** 2 / (1199 / 30)).sum()
     assert stats.chi2.sf(squares, 29**2) > 1e-4
-
-
-@given(
-    statistics=st.lists(st.integers(0, 20), min_size=20, max_size=60),
-    level=st.sampled_from([0.05, 0.1, 0.25]),
-)
-def test_bound(statistics: list[int], level: float) -> None:
-    """A statistic has a p value of at most the level just if it is above the bound."""
-    drawn = np.array([0.0, *statistics])
-    bound = bound_of(drawn, level)
-    for drawn[0] in range(22):
-        assert (p_value(drawn) <= level + 1e-9) == (drawn[0] > bound)
 
 
 @pytest.mark.parametrize("size, lengths", [(8, ()), (13, (2,)), (24, (4, 7))])

@@ -13,7 +13,6 @@ from ..read.quiet import chance_of_quiet, quiet_periods
 from ..remarks import Remark, Value
 from ..words import advised, sentence
 from .fitted import placed_numbers
-from .losses import loss_of
 from .order_tests import (
     FALSE_ALARMS,
     LEAST_PERIODS,
@@ -65,15 +64,15 @@ class Checks:
 
     @property
     def frame(self) -> pd.DataFrame:
-        """Returns a table with a row for each test, and the columns `p`, `warns`, `size`, `least_seen` and `words`."""
+        """Returns a table with a row for each test, and the columns `p`, `warns`, `size` and `words`."""
         import pandas as pd
 
         rows = list[list[object]]()
         for test in self.tests:
             words = sentence(Remark(f"found {test.name}", test.facts))
             warns = test.name in self.warned
-            rows.append([test.name, test.p, warns, test.size, test.least_seen, words])
-        names = ["test", "p", "warns", "size", "least_seen", "words"]
+            rows.append([test.name, test.p, warns, test.size, words])
+        names = ["test", "p", "warns", "size", "words"]
         return pd.DataFrame(rows, columns=names).set_index("test")
 
     @property
@@ -161,8 +160,8 @@ def checks_of(
     sold: Sequence[int] | None = None,
     season: int | None = None,
 ) -> Checks:
-    """Returns the checks of whole numbers; in full with what the tests can't see, and with the largest demands. All else
-    is as in `remarks_of`, and `season` as in `check_history`."""
+    """Returns the checks of whole numbers; in full with the p values of all tests, and with the largest demands. All else is
+    as in `remarks_of`, and `season` as in `check_history`."""
     if places is None or not places or len(places) == places[-1] + 1:
         places = None  # the numbers have no gaps
     size = len(numbers) if places is None else places[-1] + 1
@@ -176,12 +175,8 @@ def checks_of(
     )
     unknown = list[Remark]()
     if checks.tests:
-        seen: dict[str, Value] = {}
-        for test in checks.tests:
-            if test.name not in checks.warned and test.least_seen is not None:
-                seen[test.name] = test.least_seen
-        if seen:
-            unknown.append(Remark("silent tests", seen))
+        if not checks.warned:
+            unknown.append(Remark("silent tests"))
         unknown += untested
     elif len(numbers) < LEAST_PERIODS:
         unknown.append(Remark("few periods", {"periods": len(numbers)}))
@@ -196,8 +191,7 @@ def checks_of(
 
 
 def _warnings(facts: TestedHistory, checks: Checks) -> Iterator[Remark]:
-    """Yields a warning for each test that warns, with what was lost in a study. Of a trend and a shift, the one that
-    explains more is named."""
+    """Yields a warning for each test that warns. Of a trend and a shift, the one that explains more is named."""
     kinds = {test.name: test for test in checks.tests if test.name in checks.warned}
     if {*LEVELS} <= {*kinds}:
         far = centred(replace(facts, taken=tuple(kinds)).left)
@@ -205,21 +199,12 @@ def _warnings(facts: TestedHistory, checks: Checks) -> Iterator[Remark]:
         order = in_order(len(far))
         _, trend, shift = statistics_in(far, far, order, no_parts, facts.places)[0]
         del kinds["trend" if shift > trend else "shift"]
-    lengths = {season.name: season.length for season in facts.seasons}
     for name in (*LEVELS, "season", "weekday", "autocorrelation"):
         if name not in kinds:
             continue
         test = kinds[name]
-        is_beside = len(kinds) > 1
-        lost = dict[str, Value](study=None)
-        # Of an autocorrelation beside other warnings, or below 0, it is not known what is lost by who does not heed it.
-        if name != "autocorrelation" or not (is_beside or test.size < 0):
-            variation = float(np.std(facts.numbers) / np.mean(facts.numbers))
-            kind = "season" if name in lengths else name
-            lost = loss_of(kind, test.size, variation, lengths.get(name, 0))._asdict()
-        yield Remark(
-            name, {"p": test.p, **test.facts, "beside": int(is_beside), **lost}
-        )
+        beside = int(len(kinds) > 1)
+        yield Remark(name, {"p": test.p, **test.facts, "beside": beside})
 
 
 def _notes(facts: TestedHistory) -> Iterator[Remark]:

@@ -2,9 +2,9 @@
 from __future__ import annotations
 
 import math
-from collections.abc import Callable, Mapping, Sequence
+from collections.abc import Sequence
 from dataclasses import dataclass, replace
-from functools import cached_property, partial
+from functools import cached_property
 
 import numpy as np
 
@@ -13,16 +13,10 @@ from ..read.dates import first_day, period_name
 from ..remarks import Value
 from .permutation import (
     Orders,
-    autocorrelation_seen,
     autocorrelations,
     centred,
-    least_seen,
-    season_seen,
     step_weights,
-    tilted,
-    trend_seen,
 )
-from .sample import Sample
 from .seasons import Season
 
 FALSE_ALARMS = 0.05  # of all tests of a history together, at most
@@ -33,19 +27,17 @@ Effect = tuple[float, dict[str, Value]]  # its size, and the facts for its words
 
 @dataclass(frozen=True)
 class OrderTest:
-    """A test of a history: its p value, the size of what it found, the facts of that, and what it would have seen.
+    """A test of a history: its p value, the size of what it found, and the facts of that.
 
     The size is the autocorrelation of neighbours; half of the mean's change over the record, as a share of the mean, of
     a trend; the mean after it over that before, less 1, of a shift; and the amplitude, as a share of the mean, of a
-    season. `least_seen` is the least size that is seen in 8 of 10 such histories: infinity if there is none, None if it
-    is not computed.
+    season.
     """
 
     name: str
     p: float
     size: float
     facts: dict[str, Value]
-    least_seen: float | None = None
 
 
 @dataclass(frozen=True)
@@ -154,8 +146,8 @@ def _change(before: Floats, after: Floats) -> float | None:
 def tests_of(facts: TestedHistory, in_full: bool = True) -> tuple[OrderTest, ...]:
     """Returns the tests of a history. It has none if it is short or all its numbers are equal.
 
-    Only `in_full` are there tests if none warns, what each would have seen, and p values of those that don't warn; else
-    these are 1, and all takes a millisecond. If a season is seen, a trend and a shift are looked for in what is left
+    Only `in_full` are there tests if none warns, and p values of those that don't warn; else these are 1, and all takes a
+    millisecond. If a season is seen, a trend and a shift are looked for in what is left
     without it.
     """
     if len(facts.numbers) < LEAST_PERIODS or len({*facts.numbers}) == 1:
@@ -180,32 +172,7 @@ def tests_of(facts: TestedHistory, in_full: bool = True) -> tuple[OrderTest, ...
         "shift": rest.shift(),
         **{season.name: facts.season(season) for season in facts.seasons},
     }
-    least = _least_seen(facts, orders.bounds(level), level) if in_full else {}
     return tuple(
-        OrderTest(name, p_values.get(name, 1.0), *effects[name], least.get(name))
+        OrderTest(name, p_values.get(name, 1.0), *effects[name])
         for name in orders.names
     )
-
-
-def _least_seen(
-    facts: TestedHistory, bounds: Mapping[str, float], level: float
-) -> dict[str, float]:
-    """Returns what the tests of a history would have seen, but for a shift."""
-    scores = tilted(Sample.of(facts.numbers))
-    count = len(facts.numbers)
-    seen: dict[str, Callable[[float], float]] = {
-        "autocorrelation": partial(autocorrelation_seen, count, level),
-        "trend": partial(trend_seen, scores, count, bounds["trend"]),
-        **{
-            season.name: partial(
-                season_seen,
-                scores,
-                count,
-                season.length,
-                season.parts,
-                bounds[season.name],
-            )
-            for season in facts.seasons
-        },
-    }
-    return {name: least_seen(chance) for name, chance in seen.items()}

@@ -1,32 +1,25 @@
-"""Tests by permutations whether the order of a history matters, and computes what the tests would have seen.
+"""Tests by permutations whether the order of a history matters.
 
 If periods are independent and of one law, all orders of a history are equally likely. So the share of drawn orders
 whose statistic is at least that of the history, which counts among them, is a p value: whatever the law, with ties and
 zeros (Good, Permutation, Parametric, and Bootstrap Tests of Hypotheses, third edition, 2005, chapter 3; Davison and
-Hinkley, Bootstrap Methods and their Application, 1997, section 4.3).
-
-The least effect that a test sees in 8 of 10 such histories is a large-sample approximation; the study
-planner/studies/warnings.py measures how often it is seen. All figures are rounded and unproved.
+Hinkley, Bootstrap Methods and their Application, 1997, section 4.3). The study planner/studies/warnings.py measures how
+often the tests warn, with an effect and without. All figures are rounded and unproved.
 """
 from __future__ import annotations
 
-import bisect
 import functools
 import math
-from collections.abc import Callable, Iterator, Mapping, Sequence
+from collections.abc import Iterator, Mapping, Sequence
 from typing import Any
 
 import numpy as np
 import numpy.typing as npt
-from scipy import special
 
 from ..chances import Floats, Whole
 from ..compiled import compiled
-from .sample import Sample
 
 Places = npt.NDArray[np.integer[Any]]
-# The mean and the variance of a number's rank for each factor of the mean, and the variance of all ranks.
-Scores = Callable[[Floats], tuple[Floats, Floats, float]]
 
 TESTS = ("autocorrelation", "trend", "shift")  # and one of each season
 SEED = 1  # fixed: a history has the same p values each time
@@ -37,11 +30,6 @@ MOST_CELLS = 1 << 18  # of the orders that are in memory at a time
 AT_ONCE = 40  # orders that are looked at before a test is left
 KEPT = 8  # such parts of the drawn orders, for further histories of as many periods
 ROUNDING = 1e-9  # Orders whose statistics differ by less are as suspicious.
-SEEN = 0.8  # the chance with which a test would have seen an effect that is named
-SIZES = [step / 20 for step in range(1, 21)]  # of the effects that are tried
-# Within an equal block of time the mean stays: so many in the record, and at most so many in a part of a season.
-BLOCKS = 104
-BLOCKS_OF_PART = 13
 
 
 def centred(rows: Floats) -> Floats:
@@ -202,15 +190,10 @@ class Orders:
         for orders in self.orders(at_once):
             yield statistics_in(self.far, self.ranks, orders, self.parts, self.places)
 
-    def bounds(self, level: float) -> dict[str, float]:
-        """Returns the number above which each statistic has a p value of at most a level."""
-        statistics = np.concatenate([*self.statistics()]).T
-        return {name: bound_of(row, level) for name, row in zip(self.names, statistics)}
-
     def p_values(self, level: float) -> dict[str, float]:
         """Returns the p values of all tests that have one of at most a level. Tests are left when enough orders are as
         suspicious."""
-        most = most_of(level, TIMES + 1)
+        most = math.floor(level * (TIMES + 1) * (1 + ROUNDING))
         counts = np.zeros(len(self.names), int)
         least: Any = None
         for rows in self.statistics(AT_ONCE):
@@ -223,91 +206,3 @@ class Orders:
             for name, count in zip(self.names, counts.tolist())
             if count <= most
         }
-
-
-def most_of(level: float, orders: int) -> int:
-    """Returns how many orders may be as suspicious as the history, which is one of them, at a level."""
-    return math.floor(level * orders * (1 + ROUNDING))
-
-
-def bound_of(statistics: Floats, level: float) -> float:
-    """Returns the number above which a statistic has a p value of at most a level; infinity if none has."""
-    allowed = most_of(level, len(statistics))
-    return float(np.sort(statistics[1:])[-allowed]) if allowed else math.inf
-
-
-def tilted(sample: Sample) -> Scores:
-    """Returns the function that gives scores of the law of a history with other means: shares of the periods, from
-    their mean, if as many periods have each factor. A mean stays within the values. The history has two values or more.
-
-    The chance of a value is tilted by a factor e^(rate * value) (Davison and Hinkley, Bootstrap Methods and their
-    Application, 1997, section 4.4). That keeps Poisson and negative binomial laws in their families, and moves both the
-    share of periods with demand and the sizes.
-    """
-
-    def chances(rates: Floats) -> Floats:
-        powers = np.log(sample.counts) + rates[:, None] * sample.values
-        return np.asarray(special.softmax(powers, axis=1))
-
-    # Dense near 0, where means are near that of the history, and far enough out for the others.
-    rates = np.sinh(np.linspace(-8, 8, 401)) / math.sqrt(sample.squares / sample.size)
-    means_of_rates = chances(rates) @ sample.values
-
-    def scores(factors: Floats) -> tuple[Floats, Floats, float]:
-        law = chances(np.interp(factors * sample.mean, means_of_rates, rates))
-        pooled = law.mean(axis=0)
-        ranks = np.cumsum(pooled) - pooled / 2 - 0.5
-        means = law @ ranks
-        return means, law @ ranks**2 - means**2, float(pooled @ ranks**2)
-
-    return scores
-
-
-def trend_seen(scores: Scores, periods: int, bound: float, size: float) -> float:
-    """Returns the chance that the square of Spearman's rho is above a bound, if the mean rises steadily from 1 - `size`
-    times that of the history to 1 + `size` times. Rho is a sum over periods, and so about normal (Lehmann,
-    Nonparametrics, 1975, chapter 7)."""
-    time = centred(np.arange(BLOCKS) + 0.5) * 2 / BLOCKS
-    means, variances, variance = scores(1 + size * time)
-    whole = math.sqrt(time @ time * BLOCKS * variance)
-    deviation = math.sqrt(time**2 @ variances * BLOCKS / periods)
-    return float(special.ndtr((time @ means - math.sqrt(bound) * whole) / deviation))
-
-
-def season_seen(
-    scores: Scores, periods: int, length: int, parts: int, bound: float, size: float
-) -> float:
-    """Returns the chance that Kruskal and Wallis's statistic is above a bound, if the mean goes up and down as a sine
-    by `size` times that of the history, once in `length` periods, which make equal parts. The statistic has about a
-    noncentral chi-squared law (Lehmann, Nonparametrics, 1975, appendix)."""
-    blocks = parts * min(BLOCKS_OF_PART, max(1, length // parts))
-    means, _, variance = scores(
-        1 + size * np.sin(2 * math.pi * (np.arange(blocks) + 0.5) / blocks)
-    )
-    between = float((means.reshape(parts, -1).mean(axis=1) ** 2).mean())
-    within = variance - between
-    if (
-        within <= ROUNDING * variance
-    ):  # All that varies is between the parts, so no order has a larger statistic.
-        return float(bound < periods - 1)
-    return float(
-        1
-        - special.chndtr(
-            bound * variance / within, parts - 1, periods * between / within
-        )
-    )
-
-
-def autocorrelation_seen(periods: int, level: float, size: float) -> float:
-    """Returns the chance of a p value at most at a level, if neighbours have this autocorrelation, which falls with the
-    lag as in a chain of the first order. Ljung and Box's statistic has about a noncentral chi-squared law, whatever the
-    law of demand is."""
-    apart = periods * sum(size ** (2 * lag) for lag in range(1, LAGS + 1))
-    return float(1 - special.chndtr(special.chdtri(LAGS, level), LAGS, apart))
-
-
-def least_seen(seen: Callable[[float], float]) -> float:
-    """Returns the least size of an effect with a chance of 80% to be seen, to 5%; infinity if there is none."""
-    return [*SIZES, math.inf][
-        bisect.bisect_left(SIZES, True, key=lambda size: seen(size) >= SEEN)
-    ]
