@@ -236,7 +236,7 @@ def test_no_item_in_sums(items: Mapping[str, Item], tmp_path: Path) -> None:
     assert float(row["cost_kept"]) > 0
     assert row["fill_shuffled"] == row["cost_shuffled"] == ""
     assert "No item has a test" in tests.page
-    assert "Met at once in time" not in tests.page
+    assert "Met at once, by stock" not in tests.page
 
 
 def test_planned_folder(

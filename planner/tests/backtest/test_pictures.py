@@ -9,26 +9,13 @@ import pytest
 
 from crnplan.plan.backtest.sums import Sums
 from crnplan.show import verdicts
-from crnplan.show.backtest_page import curve_plot, spread_plot
+from crnplan.show.backtest_page import curve_plot
 from crnplan.show.backtest_tables import class_rows, first_line, past_line
-from crnplan.drawing.plots import Scale, bars
 from crnplan.show.verdicts import METHOD_WORDS
 from crnplan.plan.backtest.catalogue import Past
 from crnplan.plan.backtest.methods import CORRECTED, METHODS
 from planner.tests.backtest.test_curves import catalogue
 from planner.tests.backtest.test_sums import PERIODS, made, outcome
-
-
-def test_items_by_what_came() -> None:
-    """Of a promised 95%, 0, 9.5 and 65 points are missed: bars of a point from -20 on, the last of them beyond the end."""
-    tests = [made([0] * PERIODS, [0] * PERIODS, place) for place in range(3)]
-    for place, fill in enumerate((0.95, 0.855, 0.3)):
-        kept = outcome([0] * PERIODS, fill=fill)
-        tests[place] = made([0] * PERIODS, [0] * PERIODS, place, kept=kept)
-    plot, counts = spread_plot(tests), [0] * 30
-    counts[20] = counts[10] = counts[0] = 1
-    assert plot.description == "3 items, of which 1 met at least what was promised."
-    assert plot.bars == bars(counts, Scale.of(counts, is_whole=True))
 
 
 def test_curves_by_hand() -> None:

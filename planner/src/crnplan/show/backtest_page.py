@@ -1,26 +1,22 @@
-"""Draws the test of a catalogue on its past as one HTML page: what was promised and what came, by item and in time."""
+"""Draws the test of a catalogue on its past as one HTML page: what was promised and what came."""
 from __future__ import annotations
 
-import math
 from collections.abc import Sequence
 from typing import NamedTuple
 
 from ..plan.backtest.catalogue import Tested
 from ..plan.backtest.one import Backtest
-from ..plan.backtest.methods import KEPT, REFITTED, SEASONAL, SMOOTHED
-from ..plan.backtest.sums import BLOCK, TestGroup, Sums, moves_of, sides_of, summed
+from ..plan.backtest.methods import KEPT
+from ..plan.backtest.sums import moves_of, sides_of, summed
 from ..read.item import Item
 from .backtest_tables import class_rows, first_line, side_rows
-from ..drawing.plots import Line, Plot, Scale, bars, marks_of, path_of
+from ..drawing.plots import Line, Plot, Scale, bars, path_of
 from ..drawing.rendering import percent, rendered
 from .verdicts import METHOD_WORDS, gains_said, past_said
 
 MOST_WORST = 12
-# Where the picture of items ends on either side, in points: few meet far more than was promised.
-LEAST_POINTS, MOST_POINTS = -20, 10
 MOST_STOCK = 300.0  # percent of that of the kept plan, which a picture shows
 PROMISED = "of-promised"
-IN_TIME = KEPT, REFITTED, SEASONAL, SMOOTHED
 LEAST_END = 99.0  # percent, up to which an axis of service begins
 Tests = Sequence[tuple[Item, Backtest]]
 
@@ -46,29 +42,6 @@ class Worst(NamedTuple):
             bars(test.demands, scale, record, count),
             bars(test.kept.unmet, scale, record, count),
         )
-
-
-def spread_plot(tests: Sequence[Backtest]) -> Plot:
-    """Returns how many items met how many points more at once, or less, than was promised, as bars of a point each."""
-    counts, met = [0] * (MOST_POINTS - LEAST_POINTS), 0
-    for test in tests:
-        promised, came = test.kept.promised_fill, test.kept.fill
-        if promised is not None and came is not None:
-            points = math.floor(100 * (came - promised))
-            points = max(LEAST_POINTS, min(points, MOST_POINTS - 1))
-            counts[points - LEAST_POINTS] += 1
-            met += came >= promised
-    scale = Scale.of(counts, is_whole=True)
-    across = Scale.between(LEAST_POINTS, MOST_POINTS)
-    return Plot(
-        title="Items by what they met at once, less what was promised",
-        description=f"{sum(counts):,} items, of which {met:,} met at least what was promised.",
-        heights=scale.heights,
-        marks=across.marks,
-        across="points above the promise; the ends have all beyond",
-        lines=[],
-        bars=bars(counts, scale),
-    )
 
 
 def method_curves(tests: Sequence[Backtest]) -> dict[str, list[tuple[float, float]]]:
@@ -111,35 +84,6 @@ def curve_plot(tests: Sequence[Backtest], promised: float) -> Plot:
     )
 
 
-def time_plot(tests: Sequence[Backtest], promised: float, every: str) -> Plot:
-    """Returns the share of demand that was met at once in time, by blocks of periods, with what was promised."""
-    group = TestGroup(tests)
-    shares: dict[str, list[float]] = {}
-    for policy in IN_TIME:
-        if not getattr(tests[0], policy):  # of no item: see `Backtest`
-            continue
-        shares[policy] = (100 - 100 * group.unmet(policy).by_block).tolist()
-    least = min(min(own) for own in shares.values())
-    scale = Scale.between(min(100 * promised - 1, least), 100.0, sign="%")
-    level = scale.level(100 * promised)
-    lines = [Line(f"promised: {percent(promised)}", PROMISED, level)]
-    said = []
-    for policy, own in shares.items():
-        across = Scale(0, max(1, len(own) - 1), ())
-        path = path_of(across, scale, enumerate(own))
-        lines.append(Line(policy, METHOD_WORDS[policy].style, path))
-        said.append(f"{policy}: from {min(own):.1f}% to {max(own):.1f}%")
-    count = len(shares[KEPT])
-    return Plot(
-        title="Demand met at once, in time",
-        description=f"{count} blocks of {BLOCK} {every}s; {'; '.join(said)}.",
-        heights=scale.heights,
-        marks=marks_of([str(BLOCK * place) for place in range(1, count + 1)]),
-        across=f"{every}s after the record",
-        lines=lines,
-    )
-
-
 def missed(pair: tuple[Item, Backtest]) -> float:
     """Returns by how much of a period's mean demand an item missed its promise."""
     _, test = pair
@@ -153,19 +97,6 @@ def worst_of(tested: Tests) -> list[Worst]:
     """Returns the items that missed most of their promised fill, in shares of their mean demand."""
     most = sorted(tested, key=missed, reverse=True)[:MOST_WORST]
     return [Worst.of(item, test) for item, test in most]
-
-
-def plots_of(
-    tests: Sequence[Backtest], sums: Sums | None, every: str
-) -> dict[str, Plot]:
-    """Returns the pictures of a page by name; none without sums."""
-    if sums is None:
-        return {}
-    return {
-        "curves": curve_plot(tests, sums.promised),
-        "times": time_plot(tests, sums.promised, every),
-        "spread": spread_plot(tests),
-    }
 
 
 def summed_of(tested: Tested) -> Tests:
@@ -195,6 +126,6 @@ def backtest_page(tested: Tested) -> str:
             "classes": class_rows(tested.sums),
             "moves": moves_of(tested.sums),
             "worst": worst_of(pairs),
-            **plots_of(tests, sums, tested.every),
+            "curves": curve_plot(tests, sums.promised) if sums else None,
         },
     )

@@ -66,14 +66,6 @@ class Ratio:
         return math.fsum(self.above.tolist()) / self.total if self.total else math.nan
 
     @property
-    def by_block(self) -> Floats:
-        """Returns the ratio of each block in which something stands below the line."""
-        above = np.bincount(self.blocks, self.above)
-        below = np.bincount(self.blocks, self.below)
-        ratios: Floats = above[below > 0] / below[below > 0]
-        return ratios
-
-    @property
     def influence(self) -> Floats:
         """Returns by how much each part moves the ratio from that of all others."""
         moved: Floats = (self.above - self.value * self.below) / self.total
