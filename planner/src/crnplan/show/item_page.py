@@ -3,7 +3,6 @@ Amounts are items and money."""
 from __future__ import annotations
 
 import itertools
-import textwrap
 from collections.abc import Iterable
 from dataclasses import replace
 from functools import cached_property
@@ -30,10 +29,8 @@ from ..drawing.plots import Scale
 from ..drawing.rendering import capital, number, rendered, templates
 from .verdicts import VERDICTS
 
-WIDTH = 80  # of a line of the summary, in letters, but for its table
-# The columns of its table, and how those of theory are rounded there.
+# The columns of the table of the summary.
 SUMMARY = "policy s S theory_cost fill short stock orders run_cost verdict".split()
-ROUNDED = {"fill": ".1%", "short": ".1%", "stock": ",.1f", "orders": ".3f"}
 MOST_DOUBTED = 10  # policies of which the page shows the doubt
 
 
@@ -258,22 +255,12 @@ def laws_of(question: Question, single: FittedLaw | None) -> DataTable:
 
 def item_summary(words: ItemWords) -> str:
     """Returns what comes of an item's plan: its policies, the cheapest first, and all that must be said of them."""
-    money = f",.{words.currency.places}f"
-    styles = ROUNDED | {"theory_cost": money, "run_cost": money}
-    table, columns = policies_of(words).with_columns(SUMMARY), []
-    for column in table.columns:
-        columns.append(replace(column, shown=styles.get(column.name, "")))
-    rows = replace(table, columns=columns).text
+    table, code = policies_of(words).with_columns(SUMMARY), words.currency.code
+    columns = [column.for_notebook(code) for column in table.columns]
     warned = [f"WARNING: {warning}" for warning in words.warnings]
-    above = wrapped(words.headline), wrapped(words.facts)
-    below = wrapped(*words.said, *warned, words.largest, words.below)
-    return "\n".join([*above, rows, below])
-
-
-def wrapped(*texts: str) -> str:
-    """Returns texts as lines of the summary."""
-    lines = [textwrap.fill(text, WIDTH, break_on_hyphens=False) for text in texts]
-    return "".join(f"{line}\n" for line in lines if line)
+    below = filter(None, [*words.said, *warned, words.largest, words.below])
+    rows = replace(table, columns=columns).text
+    return "\n".join([words.headline, words.facts, "", rows, *below, ""])
 
 
 def item_page(words: ItemWords) -> str:
