@@ -198,34 +198,24 @@ class Progress:
         self.show(self)
 
     @property
-    def rate(self) -> float:
-        """Returns how many are done a second; 0 if none is done now."""
-        new = self.done - self.kept
-        return new / max(1e-9, time.monotonic() - self.start)
-
-    @property
     def left(self) -> str:
         """Returns the time that is left, as 01:48; empty if that is not known."""
         from tqdm import tqdm
 
-        if not self.rate:
+        new, passed = self.done - self.kept, time.monotonic() - self.start
+        if not new:
             return ""
-        return str(tqdm.format_interval((self.total - self.done) / self.rate))
-
-    @property
-    def text(self) -> str:
-        """Returns a line: how many are done and kept, how many a second, and the time that is left."""
-        line = f"{self.done} of {self.total} {self.unit} ({self.kept} kept)"
-        if not self.rate:
-            return line
-        return f"{line}, {self.rate:.3g} a second, {self.left} left"
+        return str(tqdm.format_interval((self.total - self.done) * passed / new))
 
     def log(self) -> None:
-        """Writes a line if a further ninth is done."""
+        """Writes a line if a further ninth is done: how many are done and kept, and the time that is left."""
         ninth = self.done * (MOST_LINES - 1) // max(1, self.total)
-        if ninth not in self.ninths:
-            print(self.text, file=sys.stderr, flush=True)
-            self.ninths.add(ninth)
+        if ninth in self.ninths:
+            return
+        self.ninths.add(ninth)
+        line = f"{self.done} of {self.total} {self.unit} ({self.kept} kept)"
+        left = f", {self.left} left" if self.left else ""
+        print(line + left, file=sys.stderr, flush=True)
 
 
 def hide(progress: Progress) -> None:
