@@ -11,7 +11,6 @@ from collections.abc import Iterator
 from fractions import Fraction
 from pathlib import Path
 from types import ModuleType
-from unittest.mock import Mock
 
 import click
 import numpy
@@ -335,10 +334,8 @@ def test_each_result_shows_itself_in_the_same_way(name: str, plan: crn.Plan) -> 
     assert result._repr_html_().count("<th ") == min(8, len(result.table.names))
 
 
-def test_items_and_curve_of_a_plan(
-    plan: crn.Plan, monkeypatch: pytest.MonkeyPatch
-) -> None:
-    """An item has the decisions' figures, a picture a part for both policies, a budget a policy for each item."""
+def test_items_and_curve_of_a_plan(plan: crn.Plan) -> None:
+    """An item has the decisions' figures, a picture a line for both policies, a budget a policy for each item."""
     row = whole_frame(plan).set_index("item").loc["K-102"]
     frame = plan.item("K-102").frame
     for policy in ("today", "chosen"):
@@ -347,13 +344,9 @@ def test_items_and_curve_of_a_plan(
     run_saving = frame.run_cost["today"] - frame.run_cost["chosen"]
     assert run_saving == pytest.approx(row.run_saving)
     assert "<html" in plan.item("K-102").page
-    drawn = Mock()
-    monkeypatch.setattr("crnplan.planned.trajectories_picture", drawn)
-    assert plan.item("K-102").plot() is drawn.return_value
-    policies, runs, initial = drawn.call_args.args
-    assert (len(policies), len(runs), initial) == (2, 2, 7)
-    for policy in policies:
-        assert [policy.s, policy.S] == [*frame.loc[policy.name, ["s", "S"]]]
+    picture = plan.item("K-102").plot()
+    assert picture.title == "Stock at the end of each week of one run"
+    assert all(f">{policy}<" in picture.svg for policy in ("today", "chosen"))
     curve = plan.curve(fill=0.97)
     assert curve.frame.set_index("point").loc["budget", "fill"] >= 0.97
     assert set(curve.policies.item) <= set(plan.decisions.item)

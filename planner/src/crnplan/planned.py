@@ -8,8 +8,6 @@ from functools import cached_property
 from pathlib import Path
 from typing import TYPE_CHECKING, Any, ClassVar, SupportsIndex
 
-from .crnsim.periods import Period
-from .crnsim.pictures import trajectories_picture
 from .curve.exchange_curve import ExchangeCurve, exchange_curve
 from .drawing.pictures import Picture, savings_picture
 from .read.judging import judged
@@ -32,12 +30,12 @@ from .show.calendars import levels_of
 from .show.lateness import lateness_of
 from .show.today_tables import OrdersToday, orders_today
 from .show.workbook import write_workbook
+from .show.item_plots import stock_plot
 from .show.item_page import ItemWords, item_page, item_summary, policies_of
 from .plan.catalogue import planned_folder
 from .plan.totals import Totals
 from .plan.survey import Survey
 from .plan.what_ifs import Moves
-from .policies import Policy
 from .read.catalogue_reading import READ
 from .read.frames import name_of
 from .read.opening import Table
@@ -121,16 +119,8 @@ class PlannedItem(Result):
         return self.words.depth.moves
 
     def plot(self) -> Picture:
-        """Draws stock, position and orders of today's and the chosen policy in one run."""
-        box = self.words.item.box
-        policies: list[Policy] = []
-        runs: list[list[Period]] = []
-        for name, periods in self.words.depth.trajectory.items():
-            policies.append(Policy(name, *self.words.figures[name].levels))
-            runs.append([period.times(box) for period in periods])
-        start = runs[0][0]
-        initial = start.position + start.net_demand - start.ordered
-        return trajectories_picture(policies, runs, initial)
+        """Draws the stock of today's and the chosen policy in one run."""
+        return Picture.of([stock_plot(self.words.depth, self.words.every)])
 
     @property
     def page(self) -> str:
