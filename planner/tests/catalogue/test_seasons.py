@@ -269,7 +269,6 @@ def test_page_of_an_item(room: Path, tmp_path: Path, program: Path) -> None:
     crn.report(folder, ["warm-21"], program=program)
     (path,) = (folder / "items").glob("*.html")
     page, table = path.read_text(), Page(path).tables
-    assert "Levels of the coming year, above the demand of the last one" in page
     row = whole_rows(room / "plan")["warm-21"]
     both = {name: cells for name, *cells in table[DECIDED][1:]}
     for name, column in (("cost a week", "cost"), ("met at once", "fill")):
@@ -280,7 +279,7 @@ def test_page_of_an_item(room: Path, tmp_path: Path, program: Path) -> None:
     assert VERDICTS[row["verdict"]].said.format("54, 162") in item.words.headline
     assert "All policies if February lasted" in table and "lasted" in item.text
     months = crn.open_plan(folder).levels.query("item == 'warm-21'")
-    for s, S in months[["s", "S"]].to_numpy():
-        assert f"s {s} and S {S}" in page
+    stated = months[["from", "to", "s", "S"]].astype(str).to_numpy().tolist()
+    assert table["Levels of the coming year"][1:] == stated
     plain = crn.open_plan(folder, program=program).item("plain-20")
     assert "Levels of the coming year" not in plain.page

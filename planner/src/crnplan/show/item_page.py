@@ -23,7 +23,8 @@ from ..theory.suggestions import COLUMNS as POLICY_COLUMNS
 from ..words import MONTHS, advised, exactness, sentence
 from .catalogue_tables import DECISION_COLUMNS, DETAIL_COLUMNS, ItemDecision
 from ..columns import columns_of
-from .item_plots import ALONE, history_plot, law_plot, season_plot, stock_plot
+from .calendars import ItemMonth
+from .item_plots import ALONE, history_plot, law_plot, stock_plot
 from .law_words import law_said, law_words
 from ..drawing.plots import Scale
 from ..drawing.rendering import capital, number, rendered, templates
@@ -275,6 +276,7 @@ def item_facts(words: ItemWords) -> dict[str, object]:
     columns = [*DECISION_COLUMNS, *DETAIL_COLUMNS]
     (decision,) = DataTable.of(columns, [decided_of], words.decimals).cells()
     doubted = dict(itertools.islice(words.doubted.items(), MOST_DOUBTED))
+    months = [ItemMonth(item.name, it, words.every) for it in words.whole.months]
     regrets, decided = [], []
     for name, row in doubted.items():
         regrets.append(Range(name, 100 * row["regret"], 0.0, 100 * row["regret_90"]))
@@ -291,7 +293,7 @@ def item_facts(words: ItemWords) -> dict[str, object]:
         "decided": decided,
         "laws": [*laws_of(words.question, depth.single).spelt(is_shown=True)],
         "history_plot": history_plot(depth, words.period_names, words.every),
-        "season_plot": season_plot(depth, words.every),
+        "months": months,
         "law_plot": law_plot(depth, words.every),
         "stock_plot": stock_plot(depth, words.every),
     }

@@ -6,9 +6,7 @@ from collections.abc import Iterable, Sequence
 from typing import NamedTuple
 
 from ..demand.fitted import QUANTILES
-from ..demand.seasons import months_of
 from ..plan.item import Depth
-from ..read.dates import period_name
 from ..read.item import Item
 from ..drawing.plots import (
     HIGH,
@@ -171,43 +169,6 @@ def law_plot(depth: Depth, every: str) -> Plot:
         marks=across.marks,
         across=f"{things} that a {every} asks for, at least",
         lines=[law.line(across, scale) for law in laws],
-    )
-
-
-def season_plot(depth: Depth, every: str) -> Plot | None:
-    """Returns the demand of the last year of the record as bars, and for the same periods of the coming year s, S and the
-    mean of the law with its season as lines; None for an item that is not planned by a season.
-    """
-    season, months = depth.question.season, depth.whole.months
-    if season is None or not months:
-        return None
-    names, low, high, means = list[str](), list[int](), list[int](), list[float]()
-    mean, said = float(season.law.mean), list[str]()
-    for month in months:
-        periods = month.end - month.first
-        (place,) = months_of(every, month.first, 1)
-        names += [period_name(month.first + it, every) for it in range(periods)]
-        low += [month.s] * periods
-        high += [month.S] * periods
-        means += [mean * season.index.values[place]] * periods
-        said.append(f"from {names[-periods]} on s {month.s:,} and S {month.S:,}")
-    counts, is_unknown = drawn_demand(depth.question.as_read)
-    shown, is_gap = counts[-len(names) :], is_unknown[-len(names) :]
-    scale = Scale.of([*shown, *high, *means], is_whole=True)
-    across = f"{every} of the coming year; bars are the demand a year before"
-    return Plot(
-        title="Levels of the coming year, above the demand of the last one",
-        description=capital(", ".join(said)),
-        heights=scale.heights,
-        marks=marks_of(names),
-        across=across + UNKNOWN * any(is_gap),
-        lines=[
-            steps("S", OF_CHOSEN, high, scale),
-            steps("s", HIGH, low, scale),
-            steps("mean of the law", MEAN, means, scale),
-        ],
-        bars=bars(shown, scale),
-        gaps=gaps_of(is_gap, scale),
     )
 
 
