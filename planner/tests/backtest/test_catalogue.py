@@ -199,7 +199,7 @@ def test_page(made: Path) -> None:
     assert {row[0] for row in worst} <= {
         name for name, row in rows.items() if not row["left_out"]
     }
-    assert worst[0][2] == f"{float(rows[worst[0][0]]['promised_fill_kept']):.1%}"
+    assert worst[0][1] == f"{float(rows[worst[0][0]]['promised_fill_kept']):.1%}"
 
 
 def test_level_shift_is_seen(items: Mapping[str, Item], tmp_path: Path) -> None:

@@ -2,7 +2,6 @@
 from __future__ import annotations
 
 from collections.abc import Sequence
-from typing import NamedTuple
 
 from ..plan.backtest.catalogue import Tested
 from ..plan.backtest.one import Backtest
@@ -10,7 +9,7 @@ from ..plan.backtest.methods import KEPT
 from ..plan.backtest.sums import moves_of, sides_of, summed
 from ..read.item import Item
 from .backtest_tables import class_rows, first_line, side_rows
-from ..drawing.plots import Line, Plot, Scale, bars, path_of
+from ..drawing.plots import Line, Plot, Scale, path_of
 from ..drawing.rendering import percent, rendered
 from .verdicts import METHOD_WORDS, gains_said, past_said
 
@@ -19,29 +18,6 @@ MOST_STOCK = 300.0  # percent of that of the kept plan, which a picture shows
 PROMISED = "of-promised"
 LEAST_END = 99.0  # percent, up to which an axis of service begins
 Tests = Sequence[tuple[Item, Backtest]]
-
-
-class Worst(NamedTuple):
-    """An item that missed its promise: its test, and the demand of its periods as bars, in the record, after it, and
-    of that what was not met at once."""
-
-    item: Item
-    test: Backtest
-    record: str
-    later: str
-    unmet: str
-
-    @classmethod
-    def of(cls, item: Item, test: Backtest) -> Worst:
-        counts, record = item.known.counts, test.record
-        count, scale = len(counts), Scale(0, max(1, *counts), ())
-        return cls(
-            item,
-            test,
-            bars(counts[:record], scale, 0, count),
-            bars(test.demands, scale, record, count),
-            bars(test.kept.unmet, scale, record, count),
-        )
 
 
 def method_curves(tests: Sequence[Backtest]) -> dict[str, list[tuple[float, float]]]:
@@ -93,10 +69,9 @@ def missed(pair: tuple[Item, Backtest]) -> float:
     )
 
 
-def worst_of(tested: Tests) -> list[Worst]:
+def worst_of(tested: Tests) -> Tests:
     """Returns the items that missed most of their promised fill, in shares of their mean demand."""
-    most = sorted(tested, key=missed, reverse=True)[:MOST_WORST]
-    return [Worst.of(item, test) for item, test in most]
+    return sorted(tested, key=missed, reverse=True)[:MOST_WORST]
 
 
 def summed_of(tested: Tested) -> Tests:
