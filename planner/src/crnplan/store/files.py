@@ -15,7 +15,6 @@ import os
 import re
 import secrets
 import shutil
-import socket
 import sqlite3
 import stat
 import sys
@@ -49,7 +48,6 @@ NO_SUCH_PLACE = {
     errno.ETXTBSY,
     errno.ENXIO,
     errno.ENODEV,
-    errno.ECONNREFUSED,
 }
 # A folder for what is not finished, with a random name, so that it is nobody else's.
 UNFINISHED = re.compile(r"unfinished-[0-9a-f]{16}/")
@@ -198,8 +196,8 @@ def named_text(path: Path) -> Iterator[IO[str]]:
 def named_bytes(path: Path) -> Iterator[IO[bytes]]:
     """Gives a file to write that the user has named, opened as other programs do.
 
-    A symlink is followed. What is no regular file (a device, a pipe, a socket, a terminal) is written into, and so is
-    the file in which standard output or error end. Any other file is there whole or as it was: a new one takes its
+    A symlink is followed. What is no regular file (a device, a pipe, a terminal) is written into, and so is the file in
+    which standard output or error end. Any other file is there whole or as it was: a new one takes its
     place, with its mode, its owner and its attributes. Raises Failed if the reader of a pipe has gone, Refused for a
     file that can't be replaced so, and else as `faults_of` does.
     """
@@ -224,22 +222,11 @@ def opened_name(path: Path) -> tuple[int | None, os.stat_result | None]:
         descriptor = os.open(path, os.O_WRONLY | os.O_NOCTTY)
     except FileNotFoundError:
         return None, None
-    except OSError:
-        if path.is_socket():
-            return connected(path), None
-        raise
     state = os.fstat(descriptor)
     if not stat.S_ISREG(state.st_mode):
         return descriptor, None
     os.close(descriptor)
     return standard_stream(state), state
-
-
-def connected(path: Path) -> int:
-    """Returns the descriptor of a socket whose other end is at a path."""
-    with socket.socket(socket.AF_UNIX) as line:
-        line.connect(str(path))
-        return line.detach()
 
 
 def standard_stream(state: os.stat_result) -> int | None:
