@@ -75,7 +75,7 @@ def test_what_the_program_has_is_whole(program: Path) -> None:
     tenths, whole = made(TENTHS), made(WHOLE)
     report, other = (it.run(program=program) for it in (tenths, whole))
     assert tenths.costs == whole.costs and report.text == other.text
-    assert report.floats()["total"].to_list() == pytest.approx(
+    assert report.frame["total"].astype(float).to_list() == pytest.approx(
         (other.frame["total"] / 10).to_list()
     )
     head, _, suggested = tenths.suggest().toml().partition("\n")

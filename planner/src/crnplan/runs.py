@@ -5,7 +5,6 @@ from dataclasses import dataclass
 from pathlib import Path
 from typing import TYPE_CHECKING
 
-from . import formats
 from .crnsim.report import COLUMNS, MONEY_COLUMNS, ReportRow, csv_of, rows_of_run
 from .decide.verdicts import Decision, decided
 from .policies import Policies, Policy, policies_of
@@ -14,8 +13,6 @@ from .scenario import ScenarioData
 from .table import DataTable, Json, Result
 
 if TYPE_CHECKING:
-    import pandas as pd
-
     from .decide.long_run import LongRunReport
     from .theory.suggestions import ByTheory, Suggestions
 
@@ -42,12 +39,6 @@ class Report(Result):
     def tree(self) -> dict[str, Json]:
         """Returns the rows as plain data: fractions as texts, None if there is no figure."""
         return {"policies": self.table.records}
-
-    def floats(self) -> pd.DataFrame:
-        """Returns the frame with rounded floats in place of fractions, and nan in place of None."""
-        names = [*formats.FRACTIONS]
-        names += [it.name for it in self.table.columns if it.kind == "exact"]
-        return self.frame.astype(dict.fromkeys(names, float))
 
     @judged("call")
     def decide(self, level: float = 0.95) -> Decision:
