@@ -26,7 +26,7 @@ from ..read.workbooks import sheets_of
 from ..show.catalogue_tables import REJECTS, reasons_of, rejects_of
 from ..show.control_tables import controls_of
 from ..show.lateness import lateness_of
-from .front import Front, front, page
+from .front import Front, front, page, table_to_download
 from .kept import UNKNOWN, Desk, Dropped, State
 from .plans import command_on
 from .today_files import today_files
@@ -254,6 +254,4 @@ def rejects() -> Response:
     if catalogue is None:
         raise Refused("no files were read", "drop demand and masters")
     with catalogue.opened() as known:
-        text = rejects_of(known.rejects()).csv
-    headers = {"Content-Disposition": f"attachment; filename={REJECTS}"}
-    return Response(text, headers=headers, mimetype="text/csv")
+        return table_to_download(rejects_of(known.rejects()), REJECTS)

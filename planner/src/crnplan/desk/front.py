@@ -3,13 +3,14 @@ from __future__ import annotations
 
 import contextlib
 import datetime
+import io
 import shlex
 import threading
 from collections.abc import Callable, Iterator, Mapping
 from pathlib import Path
 from typing import Any, TypeVar, cast
 
-from flask import Response, current_app, request, send_from_directory
+from flask import Response, current_app, request, send_file, send_from_directory
 
 from ..errors import CrnplanError, Refused, argument
 from ..spelling import spelt
@@ -19,6 +20,7 @@ from ..read.catalogue_reading import CATALOGUE
 from ..drawing.rendering import rendered
 from ..read.file_kinds import PLANNED
 from ..store.files import IN_KEPT, read_folder
+from ..table import DataTable
 from ..toml.documents import shown
 from .kept import LOOK, Begun, Desk
 from .language import ENGLISH, LANGUAGES, as_field, words_of
@@ -250,6 +252,12 @@ def whole_page(folder: Path, name: str) -> Response:
     answer = send_from_directory(folder.absolute(), name)
     answer.headers["Content-Security-Policy"] = WHOLE_PAGE
     return answer
+
+
+def table_to_download(table: DataTable, name: str) -> Response:
+    """Returns a table as a file of a name to download."""
+    data = io.BytesIO(table.csv.encode())
+    return send_file(data, as_attachment=True, download_name=name)
 
 
 def command_of(name: str, *words: object, **options: object) -> str:

@@ -2,7 +2,6 @@
 from __future__ import annotations
 
 import datetime
-import io
 from collections.abc import Mapping, Sequence
 from dataclasses import replace
 from itertools import groupby
@@ -18,7 +17,15 @@ from ..read.quantities import quantity_of
 from ..read.stock import EXPORTED, ON_ORDER, STOCK
 from ..show.today_tables import OrdersToday, rows_of
 from ..store.digests import digest_of
-from .front import PREPARED, Front, command_of, front, page, whole_of
+from .front import (
+    PREPARED,
+    Front,
+    command_of,
+    front,
+    page,
+    table_to_download,
+    whole_of,
+)
 from .kept import PLACED, QUANTITIES, UNKNOWN, Placed, now
 from .today_files import DAY, TodayFiles, last_plan, today_files
 
@@ -187,8 +194,7 @@ def file(name: str) -> Response:
     table = orders.files.get(name)
     if table is None:
         raise Refused(f"{name}: there is no such file on {orders.today.day}")
-    data = io.BytesIO(table.csv.encode())
-    return send_file(data, as_attachment=True, download_name=name)
+    return table_to_download(table, name)
 
 
 def keep(day: str) -> OrdersToday:

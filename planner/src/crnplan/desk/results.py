@@ -2,15 +2,12 @@
 from __future__ import annotations
 
 import contextlib
-import io
 import json
 import math
 import operator
-import tempfile
 from collections import Counter
 from collections.abc import Collection, Iterator, Mapping, Sequence
 from dataclasses import replace
-from pathlib import Path
 from typing import Any, NamedTuple
 from urllib.parse import urlencode
 
@@ -253,8 +250,6 @@ def file(name: str) -> Response:
         return whole_page(plan.path, name)
     if name != WORKBOOK:
         return send_from_directory(plan.path.absolute(), name, as_attachment=True)
-    with tempfile.TemporaryDirectory() as room:
-        path = Path(room) / WORKBOOK
-        plan.to_excel(path)
-        data = io.BytesIO(path.read_bytes())
-    return send_file(data, download_name=WORKBOOK, as_attachment=True)
+    path = front().desk.folder.room() / WORKBOOK
+    plan.to_excel(path)
+    return send_file(path, as_attachment=True)

@@ -11,11 +11,12 @@ import tempfile
 import threading
 import webbrowser
 from collections.abc import Callable, Iterator
+from io import BytesIO
 from pathlib import Path
 from typing import Any
 
 import waitress.server
-from flask import Flask, redirect
+from flask import Flask, redirect, send_file
 from werkzeug.exceptions import HTTPException
 from werkzeug.wrappers import Response
 
@@ -55,19 +56,17 @@ def spelling(answers: Callable[..., Any]) -> Callable[..., Any]:
 def add_looks(app: Flask) -> None:
     """Has an application show the style, the script and the icon of its pages."""
 
-    @app.get("/style.css")
-    def style() -> Response:
+    @app.get("/<any('style.css', 'script.js'):name>")
+    def look(name: str) -> Response:
         # The table of a whole plan is on no page of the desk.
         facts = {"columns": [], "rows_a_group": 1}
-        return Response(rendered("desk/style.css", facts), mimetype="text/css")
-
-    @app.get("/script.js")
-    def script() -> Response:
-        return Response(rendered("desk/script.js", {}), mimetype="text/javascript")
+        return send_file(
+            BytesIO(rendered(f"desk/{name}", facts).encode()), download_name=name
+        )
 
     @app.get("/icon.svg")
     def icon() -> Response:
-        return Response(ICON.read_bytes(), mimetype="image/svg+xml")
+        return send_file(ICON)
 
 
 def application(front: Front, hosts: set[str]) -> Flask:
