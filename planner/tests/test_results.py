@@ -57,7 +57,6 @@ def results(path: Path, program: Path) -> Mapping[str, Result]:
     return {
         "plan": plan,
         "item": item,
-        "compare": item.compare(),
         "doubt": item.doubt(),
         "moves": item.moves(),
         "curve": plan.curve(jobs=1),
@@ -70,7 +69,9 @@ def results(path: Path, program: Path) -> Mapping[str, Result]:
     }
 
 
-KINDS = """plan item compare doubt moves curve orders backtest suggestions report decide""".split()
+KINDS = (
+    """plan item doubt moves curve orders backtest suggestions report decide""".split()
+)
 KINDS += ["long run"]
 
 
@@ -179,7 +180,8 @@ def test_representations(results: Mapping[str, Result], path: Path) -> None:
     assert repr(item) == (
         f"PlannedItem(I-000: s {row.s}, S {row.S}, costs {row.cost:.2f} a week)"
     )
-    assert repr(results["compare"]) == f"ItemFigures({len(item.frame)} rows)"
+    doubt = results["doubt"]
+    assert repr(doubt) == f"ItemFigures({len(doubt.frame)} rows)"
     assert repr(results["report"].table).startswith(
         f"DataTable({len(results['report'].frame)} rows of policy, s, S, total, "
     )

@@ -67,7 +67,6 @@ def item(plan: crn.Plan) -> None:
     planned = plan.item(4711)
     assert_type(planned, crn.PlannedItem)
     assert_type(planned.scenario, crn.Scenario)
-    assert_type(planned.compare(), ItemFigures)
     assert_type(planned.doubt(), ItemFigures)
     assert_type(planned.moves(), Moves)
     assert_type(planned.page, str)

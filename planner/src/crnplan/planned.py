@@ -68,7 +68,9 @@ class ItemFigures(Result):
 
 @dataclass(frozen=True, eq=False, repr=False)
 class PlannedItem(Result):
-    """The plan of one item. `frame` has its policies, the cheapest first; `text` says what was decided."""
+    """The plan of one item. `frame` has its policies, the cheapest first: cost by theory and by crnsim, service, stock,
+    orders, and the difference from today's, or else from the chosen one's, with its interval. `text` says what was decided.
+    """
 
     words: ItemWords = field(repr=False)
     brief: ClassVar = "policy s S cost difference verdict fill stock".split()
@@ -103,11 +105,6 @@ class PlannedItem(Result):
         return "\n".join(
             [self.words.headline, *self.words.said, *self.words.warnings, ""]
         )
-
-    def compare(self) -> ItemFigures:
-        """Returns all policies of the item: cost by theory and by crnsim, service, stock, orders, and the difference
-        from today's, or else from the chosen one's, with its interval."""
-        return ItemFigures(policies_of(self.words), "\n".join(self.words.said))
 
     def doubt(self) -> ItemFigures:
         """Returns what each policy costs and meets under the laws that the item's history allows."""
