@@ -252,7 +252,7 @@ def test_learned_law_stands_beside_the_items_own(learned: Path, program: Path) -
     assert "the law of this item alone: " in picture
     open_words, folded = parts_of(page)
     assert (
-        "Demand is planned by a law that was learned from all items of the catalogue"
+        "Demand is planned by the law learned from all items of the catalogue"
         in open_words
     )
     assert (

@@ -130,8 +130,8 @@ def test_a_page_says_by_which_law(
     }
     page = page_of(its, tmp_path)
     before, _, folded = page.source.partition("<details>")
-    plain = {"empirical": "Demand is planned as it was seen in this history."}
-    fitted = "Demand is planned by a law that was fitted to this history."
+    plain = {"empirical": "Demand is planned by this history."}
+    fitted = "Demand is planned by the law fitted to this history."
     assert plain.get(fit, fitted) in before
     assert "BIC" not in before
     assert ("BIC above the least" in folded) == (fit != "empirical")

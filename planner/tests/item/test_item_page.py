@@ -2,7 +2,6 @@
 from __future__ import annotations
 
 import csv
-import datetime
 import re
 from collections import Counter
 from collections.abc import Callable, Mapping
@@ -145,18 +144,11 @@ def test_intervals_are_those_of_the_item(whole: crn.PlannedItem, page: Page) -> 
 def test_pictures_say_their_figures(
     whole: crn.PlannedItem, page: Page, counts: list[int]
 ) -> None:
-    """The picture of the history says in words what the demand and its law are."""
+    """The picture of the history says in words what the law of the demand is, and the page what the demand was."""
     text = page.pictures["Demand by week, and the law that it is planned by"]
-    most = max(counts)
-    monday = datetime.date(2023, 1, 2) + datetime.timedelta(7 * counts.index(most))
-    year, week, _ = monday.isocalendar()
-    law = whole.scenario.demand
-    for said in (
-        f"{len(counts)} weeks from 2023-W01 to 2024-W52, {sum(counts):,} items",
-        f"the greatest demand is {most}, in {year}-W{week:02};",
-        f"mean of the law: {float(law.mean):.2f} a week; 99 of 100 weeks by the law: at most ",
-    ):
-        assert said in text
+    mean = f"{float(whole.scenario.demand.mean):.2f} a week"
+    assert f"mean of the law: {mean}; 99 of 100 weeks by the law: at most " in text
+    assert f"{len(counts)} weeks, {sum(counts):,} items" in page.words
     (bars,) = re.findall('class="bar" d="([^"]+)"', page.source)
     assert bars.count("M") == len(counts) - counts.count(0)
 
@@ -295,4 +287,4 @@ def test_unknown_weeks_are_gaps(
     said = f"{len(known):,} weeks, {sum(known):,} items, {known.count(0):,} weeks"
     assert f"{said} without demand, and 1 weeks not known." in page.source
     assert page.source.count('class="gap"') == 1
-    assert "the demand of 1 more is not known" in page.source
+    assert "and 1 weeks not known" in page.words

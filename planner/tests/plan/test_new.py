@@ -62,7 +62,7 @@ def test_a_new_item(
     assert remark.facts["low"] < remark.facts["high"] <= 1
     words = ItemWords(Depth(question, answer, str(program)), "week", Currency())
     assert ": a new item" in item_summary(words).splitlines()[0]
-    assert ("no week of the record" in item_page(words)) == (not counts)
+    assert (": 0 weeks, 0 items" in item_page(words)) == (not counts)
 
 
 def test_a_new_item_without_a_backlog_cost(prior: Prior, program: Path) -> None:

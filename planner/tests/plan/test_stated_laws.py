@@ -96,7 +96,7 @@ def test_pages_and_depth_of_an_item_without_a_history(program: Path) -> None:
     assert "the law that is stated for it" in page
     assert "Demand is planned by the law that is stated for it." in page
     assert "nothing says how sure that is" in page
-    assert "no week of the record" in page
+    assert "0 weeks, 0 items" in page
     assert "0 weeks, 0 items" in item_summary(words)
     assert {"fill_98", "fill_99"} <= {shown.name for shown in depth.compared}
     assert not any("sure" in shown.name for shown in depth.compared)

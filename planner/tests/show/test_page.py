@@ -161,10 +161,6 @@ def test_bars_of_a_long_history() -> None:
     assert plot.bars.count("M") == 519
     assert plot.across == "week; the 1 before are not drawn"
     assert plot.marks[0][1] == "W1"
-    assert (
-        "521 weeks from W0 to W520, 528 items; 1 weeks without demand; the greatest demand is 9, in W0;"
-        in plot.description
-    )
     named = [Point(100.0, 0.9, 1.0, 1.0), Point(200.0, 0.95, 1.0, 1.0)]
     assert curve_ends(named) == pytest.approx((270, 86))
     assert curve_ends([named[0]._replace(fill=0.03)])[1] == 0

@@ -29,22 +29,6 @@ OF_ALONE = "of-alone"  # the class of lines of the law of the item alone
 Histogram = Sequence[tuple[int, int]]  # values with their weights
 
 
-def history_said(item: Item, names: Sequence[str], every: str) -> str:
-    """Returns what a picture of a history shows, in figures."""
-    counts = item.known.counts
-    if not counts:
-        return f"no {every} of the record"
-    most, gaps = max(counts), ""
-    if item.unknown:
-        gaps = f"; the demand of {len(item.unknown):,} more is not known"
-    greatest = names[item.known_places[counts.index(most)]]
-    return (
-        f"{len(counts):,} {every}s from {names[0]} to {names[-1]}, {sum(counts):,} items; "
-        f"{counts.count(0):,} {every}s without demand; the greatest demand is {most:,}, in "
-        f"{greatest}{gaps}"
-    )
-
-
 def drawn_demand(item: Item) -> tuple[list[int], list[bool]]:
     """Returns the demand of each period as it is drawn, of which nothing is if none was seen, and whether it is unknown."""
     unknown, cut = {*item.unknown}, {*item.cut}
@@ -88,7 +72,7 @@ def history_plot(depth: Depth, names: Sequence[str], every: str) -> Plot:
         across += UNKNOWN
     return Plot(
         title=f"Demand by {every}, and the law that it is planned by",
-        description=f"{history_said(item, names, every)}; {mean_name}; {high_name}.",
+        description=f"{mean_name}; {high_name}.",
         heights=scale.heights,
         marks=marks_of(names[-MOST_BARS:]) if names else [],
         across=across,

@@ -36,14 +36,4 @@ def law_words(law: FittedLaw) -> str:
 
 def law_said(law: FittedLaw) -> str:
     """Returns in a plain sentence by which law demand is planned."""
-    borrowed = law.diagnostics.borrowed
-    if law.family == STATED:
-        return "Demand is planned by the law that is stated for it."
-    if law.family == EMPIRICAL:
-        return "Demand is planned as it was seen in this history."
-    if borrowed and not borrowed.alone:
-        seen = f"; {1 - borrowed.share:.0%} of it is what was seen of this item" * (
-            borrowed.share < 1
-        )
-        return f"Demand is planned by a law that was learned from {source_words(borrowed.prior)}{seen}."
-    return "Demand is planned by a law that was fitted to this history."
+    return f"Demand is planned by {law_words(law).partition(' (')[0]}."
