@@ -15,7 +15,7 @@ import numpy as np
 import numpy.typing as npt
 
 from .amounts import AMOUNTS
-from .cells import Flags, Numbers, text_of
+from .cells import Flags, Numbers
 from .items import FileCounts
 from .observed import Day, sums_of
 from .sources import FILE_BITS, Sheet
@@ -150,24 +150,19 @@ class _Sums:
             cells, day_of = self.columns[date].distinct, table.dates.day
             days, _ = values_of(cells, lambda cell: day_of(cell).toordinal(), 0)
             self.days = self.columns[date].of_rows(days, np.int64)
-        sized, sizes, size = "measure", [1], 1
+        sizes, size = table.rows.sizes(factors), 1
         if "factor" in self.columns:
-            sized = "factor"
-            read = table.amounts[sized].known
-            sizes, size = whole_numbers(map(read, self.columns[sized].distinct))
-        elif sized in self.columns:
-            units = map(text_of, self.columns[sized].distinct)
-            sizes = [factors.get(unit, 1) for unit in units]
+            column, read = self.columns["factor"], table.amounts["factor"].known
+            numbers, size = whole_numbers(map(read, column.distinct))
+            sizes = column.of_rows(numbers, object)
         # The amounts of the rows by role, as whole numbers, and how many of these are 1.
         self.amounts = dict[str, tuple[npt.NDArray[Any], int]]()
         for role in SUMMED[table.kind]:
             if role in self.columns:
-                self.amounts[role] = self._numbers(role, max(sizes, default=1))
-        for role, (self.packs, scale) in [*self.amounts.items()][:1]:
+                self.amounts[role] = self._numbers(role, int(sizes.max(initial=1)))
+        for role, (packs, scale) in [*self.amounts.items()][:1]:
+            self.packs = packs * sizes
             self.size = Fraction(table.factors.get(role, 1)) / scale / size
-        if sized in self.columns and self.amounts:
-            kind = self.packs.dtype.type
-            self.packs = self.packs * self.columns[sized].of_rows(sizes, kind)
 
     def _numbers(self, role: str, times: int) -> tuple[npt.NDArray[Any], int]:
         """Returns the number of each row in a column, 0 of one that has none, as `whole_numbers` does. They may be multiplied

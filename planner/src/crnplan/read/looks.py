@@ -116,7 +116,7 @@ def look_at(kind: str, table: str, words: Reading, room: Path | None = None) -> 
                 [*seen_rows(found, faults)],
                 found.columns,
                 faults,
-                [Fault(what, sheet.name, sheet.line) for what in wrong],
+                [*map(sheet.fault_of, wrong)],
                 found is not sheet,
             )
     except Refused as why:

@@ -211,12 +211,8 @@ class Reader:
             back = demand.read_amounts("returned", "returns")
         if words.negate:
             asked = -asked
-        if "measure" in rows.columns and words.factors:
-            column = rows.columns["measure"]
-            units = map(text_of, column.distinct)
-            factors = (words.factors.get(unit, 1) for unit in units)
-            sizes = column.of_rows(factors, np.int64)
-            asked, back = asked * sizes, back * sizes
+        sizes = rows.sizes(words.factors)
+        asked, back = asked * sizes, back * sizes
         marked = np.zeros_like(asked)
         if "promotion" in rows.columns:
             marked = demand.read_whole("promotion", is_marked)

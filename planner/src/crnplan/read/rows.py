@@ -12,7 +12,7 @@ import numpy as np
 
 from .amounts import AmountReader
 from .blocks import DATES, Block, Codes, CodedColumn, read_blocks
-from .cells import Cell, CellFault, Flags, Numbers, fault
+from .cells import Cell, CellFault, Flags, Numbers, fault, text_of
 from .columns import counts_items
 from .dates import DateReader
 from .sources import FILE_BITS, Sheet
@@ -124,6 +124,14 @@ class Rows(Block):
                 continue
             name = self.cell("item", row)
             yield row, fault("item", name, "unprintable name" if name else "no item")
+
+    def sizes(self, factors: Mapping[str, int]) -> Numbers:
+        """Returns how many items one of each row's unit of measure counts as: 1 if that is not stated."""
+        if "measure" not in self.columns:
+            return np.ones(len(self), np.int64)
+        column = self.columns["measure"]
+        sizes = (factors.get(text_of(unit), 1) for unit in column.distinct)
+        return column.of_rows(sizes, np.int64)
 
     def having(self, role: str, codes: Collection[int]) -> Flags:
         """Returns which rows have one of these values in a column."""

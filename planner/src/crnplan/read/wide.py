@@ -14,7 +14,7 @@ import operator
 import re
 from collections.abc import Iterator, Mapping, Sequence
 
-from ..errors import Fault, RefusedFaults
+from ..errors import RefusedFaults
 from ..remarks import Remark, Value
 from .cells import TOTAL, Cell, Unreadable, text_of
 from .date_forms import written
@@ -204,8 +204,7 @@ def wide_sheet(sheet: Sheet) -> WideSheet | None:
             try:
                 days[place] = reader.day(name)
             except Unreadable as why:
-                fault = Fault(why.remark, sheet.name, sheet.line)
-                raise RefusedFaults([fault]) from why
+                raise RefusedFaults([sheet.fault_of(why.remark)]) from why
         elif TOTAL.match(name):
             totals.append(place)
     wide = WideSheet(sheet, days, totals)
