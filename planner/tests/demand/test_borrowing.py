@@ -64,7 +64,8 @@ def weights_of(numbers: Sequence[int], prior: Floats) -> tuple[Floats, Floats]:
     [(1, RARE), (2, [0] * 20), (3, [0, 4] + [0] * 10), (4, [3, 8, 1, 2, 9]), (5, [])],
 )
 def test_posterior_on_few_cells(seed: int, numbers: list[int]) -> None:
-    """Predictive law and Bayes factor are those of sums over all points of all cells, by scipy's laws."""
+    """Predictive law and Bayes factor are those of sums over all points of all cells, by scipy's laws. If a demand is at
+    most so large, the others have their chances."""
     random, prior = np.random.default_rng(seed), np.zeros(grid.FLAT.shape)
     places = (
         random.choice(its, count, replace=False) for its, count in ((24, 3), (192, 4))
@@ -83,6 +84,8 @@ def test_posterior_on_few_cells(seed: int, numbers: list[int]) -> None:
     below = np.cumsum(law)[: len(found.predictive)] / weights.sum()
     assert np.allclose(np.cumsum(found.predictive), below, rtol=0, atol=2e-7)
     assert found.bayes == pytest.approx(weights.sum() / likelihoods.mean())
+    bounded, few = replace(found, most=3).predictive, law[:4] / law[:4].sum()
+    assert bounded == pytest.approx(few, rel=0, abs=1e-6)
 
 
 @pytest.mark.parametrize("numbers", [(), (0, 0, 0), (40, 39, 41, 40, 40)], ids=str)

@@ -11,13 +11,12 @@ from hypothesis import example, given, settings, strategies as st
 from scipy import integrate, optimize, special, stats
 
 from crnplan.chances import DEMANDS, Floats, scaled
-from crnplan.demand import count_laws, families
-from crnplan.demand.count_laws import beta_negative_binomial, greatest_mean, root_of
+from crnplan.demand import families
+from crnplan.demand.count_laws import beta_negative_binomial, greatest_mean
 from crnplan.demand.families import cells_of, fits_of, parts_of, predictive_of
 from crnplan.demand.borrowing import fit_demand
 from crnplan.demand.posterior import allowed_laws
 from crnplan.demand.sample import Sample
-from planner.tests.conftest import leave_as_written
 from planner.tests.demand.made import BULKY, HISTORIES
 
 EACH_FAMILY = pytest.mark.parametrize("name", families.FAMILIES)
@@ -57,13 +56,8 @@ def test_no_demand_above_the_range(name: str) -> None:
     assert len(predictive_of(name, Sample.of([0, 1, 5_000, 10_000] * 5))) <= 10_001
 
 
-@pytest.mark.parametrize("is_compiled", [True, False])
-def test_demand_in_two_of_the_most_periods(
-    is_compiled: bool, monkeypatch: pytest.MonkeyPatch
-) -> None:
+def test_demand_in_two_of_the_most_periods() -> None:
     """The size of a negative binomial law is then far below 1, and none beside it is likelier."""
-    if not is_compiled:
-        leave_as_written(monkeypatch, count_laws)
     sample, mean = Sample.of([0] * 65_534 + [2, 2]), 4 / 65_536
     found = families.FAMILIES["negative-binomial"].likeliest(sample)
     assert found
@@ -327,14 +321,3 @@ def test_beta_negative_binomial(
             for ends in zip(places, places[1:])
         )
         assert chances[value] == pytest.approx(low + high, rel=1e-6, abs=1e-12)
-
-
-@pytest.mark.parametrize("slope", [1e-4, 1.0, 50.0])
-def test_root(slope: float) -> None:
-    """A root is found though Newton's method would leave the range, and where the function is flat."""
-
-    def function(place: float) -> tuple[float, float]:
-        distance = slope * (place - 3)
-        return -math.atan(distance), -slope / (1 + distance**2) * (place != 5)
-
-    assert root_of(function, -10, 20) == pytest.approx(3, abs=1e-11)

@@ -35,20 +35,18 @@ def test_distances_by_definition(
     [[0.5, 0.5], [0.6, 0.0, 0.3, 0.1, 0.0], [0.1] * 10, [0.9, 0.03, 0.03, 0.04]],
     ids=["two", "gaps", "even", "rare"],
 )
-@pytest.mark.parametrize("way", ["__call__", "__wrapped__"])
-def test_figures_of_drawn_histories(way: str, chances: list[float]) -> None:
-    """As it is compiled and as it is written, the loop draws each number by its uniform number, none above the last that
-    has a chance."""
-    law, random = np.array(chances), np.random.default_rng(7)
-    uniform, last = np.sort(random.random((6, 12)), axis=1), law.nonzero()[0][-1]
-    uniform[0, -1] = 1 - 1e-16
+def test_drawn_histories(chances: list[float]) -> None:
+    """Each number is drawn by its uniform number, none above the last that has a chance. All of them are uniform, those
+    of a history stand in rising order, and each is there once."""
+    law, (rising, ranks) = np.trim_zeros(np.array(chances)), guard.uniforms(12)
+    rising = np.append(rising[:-1], 1 - 1e-16)
     below = np.cumsum(law)
-    drawn = (uniform[:, :, None] >= below[:last]).sum(axis=2)
-    words = *guard.Uniform.of(uniform), int(last), *guard.Summed.of(law)
-    squares, far = getattr(guard.drawn_figures, way)(*words)
-    assert squares == pytest.approx(144 * np.var(drawn, axis=1))
-    shares = (drawn[:, :, None] <= np.arange(len(law))).mean(axis=1)
-    assert far == pytest.approx(12 * ((shares - below) ** 2 - below**2) @ law)
+    expected = (rising[:, None] >= below[:-1]).sum(axis=1)
+    assert guard.drawn(below, rising).tolist() == expected.tolist()
+    assert sorted(ranks.ravel()) == [*range(len(rising))]
+    assert (np.diff(ranks, axis=1) > 0).all() and (np.diff(rising) > 0).all()
+    assert stats.kstest(guard.uniforms(12)[0], "uniform").pvalue > 0.01
+    assert abs(np.corrcoef(ranks[:, 0], ranks[:, -1])[0, 1]) < 0.25
 
 
 def test_verdicts() -> None:

@@ -16,9 +16,9 @@ import pytest
 from hypothesis import given, settings, strategies as st
 from scipy import ndimage, special, stats
 
-from crnplan.chances import Floats
+from crnplan.chances import Floats, add_times
 from crnplan.demand import grid, learning
-from crnplan.demand.borrowing import law_of, weighed_sizes
+from crnplan.demand.borrowing import law_of
 from crnplan.demand.grid import CellLikelihoods, chunks_of, marginal
 from crnplan.demand.learning import GridPrior, Prior, learn
 from crnplan.demand.sample import Sample
@@ -33,7 +33,6 @@ from planner.tests.demand.made import (
 )
 
 CASES = tomllib.loads(Path(__file__).with_name("borrowing.toml").read_text("utf-8"))
-WAYS = pytest.mark.parametrize("way", ["__call__", "__wrapped__"])
 ONE_STEP = partial(grid.estimated, steps=1, blur=0)
 Histories = dict[str, list[int]]
 
@@ -63,8 +62,7 @@ def test_learned_prior(mixed: Histories) -> None:
     assert whole.gain == pytest.approx(gains.mean(), abs=1e-5)
 
 
-@WAYS
-def test_histories_in_groups(way: str) -> None:
+def test_histories_in_groups() -> None:
     """Histories with as many periods and demands share a row, and each has its own likelihoods."""
     numbers = [[0, 3, 1], [2, 0, 0, 7], [5, 0, 1], [0, 0, 0], [4, 0, 0, 1]]
     samples, prior = [Sample.of(it) for it in numbers], drawn_prior(3, 1)
@@ -76,10 +74,13 @@ def test_histories_in_groups(way: str) -> None:
         (alone,) = CellLikelihoods.of([samples[place]]).marginal(prior)
         assert chances[at] == pytest.approx(alone)
         expected += np.outer(cells.shares[cells.groups[at]], cells.sizes[at]) / alone
-    found = getattr(grid.expected_of, way)(*cells, prior)
-    assert np.allclose(found, expected, rtol=1e-9, atol=0)
+    assert np.allclose(cells.expected(prior), expected, rtol=1e-9, atol=0)
+
+
+@pytest.mark.parametrize("way", ["__call__", "__wrapped__"])
+def test_rows_are_added(way: str) -> None:
     total = np.array([1.0, 2.0, 3.0])
-    getattr(grid.add_times, way)(total, np.array([10.0, 0.0, -4.0]), 0.5)
+    getattr(add_times, way)(total, np.array([10.0, 0.0, -4.0]), 0.5)
     assert total.tolist() == [6.0, 2.0, 1.0]
 
 
@@ -275,17 +276,12 @@ def test_units_and_points() -> None:
 
 @pytest.mark.parametrize("cell", [0, 5, 90, 188, 191])
 def test_size_laws(cell: int) -> None:
-    """The laws of sizes are negative binomial from 1 on, all but a tail. What is left of them falls with the width."""
+    """The laws of sizes are negative binomial from 1 on, all but a tail."""
     law, size = grid.size_laws()[cell], grid.SIZE_DISPERSIONS[cell, 0]
     laws = stats.nbinom(size, size / (size + grid.SIZE_MEANS[cell][:, None]))
     expected = laws.pmf(np.arange(law.shape[1]))
     assert np.allclose(law, expected, rtol=0, atol=1e-8)
     assert (1 - expected.sum(axis=1) < 1.01e-9).all()
-    widths = np.array(grid.size_widths()[cell])
-    level = 10.0 ** -np.arange(1, 8)
-    left, less = laws.sf(widths[1:8] - 2)[-1], laws.sf(widths[1:8] - 1)[-1]
-    assert (left > level * 0.99).all() and (less < level * 1.01).all()
-    assert widths[0] == 1 and widths[9] <= law.shape[1]
 
 
 @settings(max_examples=25)
@@ -316,17 +312,3 @@ def test_blur(seed: int, part: float) -> None:
     prior = drawn_prior(seed, 0.01)
     found = grid.estimated([], prior, prior, steps=1, blur=part)
     assert np.allclose(found, walked(prior, part), rtol=0, atol=1e-14)
-
-
-@WAYS
-def test_weighed_sizes(way: str) -> None:
-    """As it is compiled and as it is written, the loop adds up the laws of cells with their weights, up to their widths:
-    of three cells, the last two."""
-    table = np.array([9.0, 9.0, 0.5, 0.3, 0.2, 0.6, 0.4, 0.0, 1.0, 0.75])
-    weights = np.array([[0.25, 0.25], [0.5, 0.0]])
-    places = [np.array(it) for it in ([1, 2], [2, 1])]
-    found = getattr(weighed_sizes, way)(
-        weights, *places, table, np.array([0, 2, 8, 10])
-    )
-    # 0.25 * 0.5 + 0.25 * 0.6 + 0.5 * 1.0, and 0.25 * 0.3 + 0.25 * 0.4
-    assert found == pytest.approx([0.775, 0.175], rel=1e-15)

@@ -15,8 +15,7 @@ from typing import Any
 import numpy as np
 
 from ..arguments import judged
-from ..chances import Floats, Whole, add_times, cut, in_items, mixture, scaled
-from ..compiled import compiled
+from ..chances import Floats, Whole, cut, in_items, mixture, scaled
 from ..errors import Refused
 from ..formats import MOST_DEMAND
 from ..law import Law
@@ -28,15 +27,12 @@ from .fitted import Borrowed, Diagnostics, FittedLaw, seen_law
 from .fitting import boxes_of, cap_of, family_law, share_of
 from .grid import (
     FLAT,
-    LEVELS,
     MOST_SIZE,
     SHARES,
     SIZE_CELLS,
     share_likelihoods,
     size_laws,
     size_likelihoods,
-    size_table,
-    size_widths,
 )
 from .learning import NONE, Prior, is_outside
 from .posterior import (
@@ -50,24 +46,8 @@ from .sample import Sample, shares_of
 FAMILY = "borrowed"
 LEVEL = 0.05  # Each share of the guard is above it, else the law of the single item is taken.
 ROWS = 4  # of uniform numbers for a drawn law; the last one chooses its part
-# What each cell may lack of a predictive law: all 192 cells together a hundredth of the least weight, 1 / 65,536.
+# Of a cell that is left out of a predictive law: all 192 cells together have a hundredth of the least weight, 1 / 65,536.
 LEAST_CHANCE = 1e-9
-
-
-@compiled
-def weighed_sizes(
-    weights: Floats, cells: Whole, widths: Whole, table: Floats, ends: Whole
-) -> Floats:
-    """Returns the sum of the laws of sizes in a table (see `size_table`), each up to the width of its cell, with a row
-    of weights for each cell."""
-    chances = np.zeros(widths.max())
-    points = weights.shape[1]
-    for row in range(len(cells)):
-        laws = table[ends[cells[row]] : ends[cells[row] + 1]].reshape(points, -1)
-        sums = chances[: widths[row]]
-        for point in range(points):
-            add_times(sums, laws[point], weights[row, point])
-    return chances
 
 
 @dataclass(frozen=True, eq=False)
@@ -112,20 +92,12 @@ class Posterior:
         share = float(demand @ means / (self.shares.mean(axis=1) @ self.prior @ means))
         weights = demand[:, None] * self.sizes
         weights /= weights.sum()
-        own = weights.sum(axis=1)
-        cells = np.flatnonzero(own > LEAST_CHANCE)
-        levels = np.minimum(
-            np.ceil(np.log10(own[cells] / LEAST_CHANCE)).astype(int), LEVELS - 1
+        cells = np.flatnonzero(weights.sum(axis=1) > LEAST_CHANCE)
+        laws = size_laws()
+        sizes = mixture(
+            (1.0, weights[cell] @ laws[cell][:, : self.most]) for cell in cells
         )
-        widths = np.minimum(size_widths()[cells, levels], self.most)
-        return cut(
-            np.concatenate(
-                [
-                    [1 - share],
-                    share * weighed_sizes(weights[cells], cells, widths, *size_table()),
-                ]
-            )
-        )
+        return cut(np.append(1 - share, share * sizes))
 
     @cached_property
     def share(self) -> float:

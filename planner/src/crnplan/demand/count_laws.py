@@ -2,15 +2,12 @@
 from __future__ import annotations
 
 import math
-from collections.abc import Callable
-from functools import partial
 from typing import Any
 
 import numpy as np
 from scipy import special
 
 from ..chances import DEMANDS, Floats, Whole, scaled
-from ..compiled import compiled
 from .family import Family, Parameters
 from .sample import Sample
 
@@ -101,19 +98,6 @@ class Geometric(Family):
         )
 
 
-@compiled
-def score_of_size(
-    above: Whole, count: int, mean: float, logarithm: float
-) -> tuple[float, float]:
-    """Returns the derivative of a negative binomial likelihood's logarithm by the size k, and its own by the logarithm
-    of k. `above` has how many of so many numbers are above 0, 1 and so on: digamma(n + k) - digamma(k) is a sum over 0
-    to n - 1."""
-    size = math.exp(logarithm)
-    shares = 1 / (np.arange(len(above)) + size)
-    fall = count * mean / (size + mean) - size * np.dot(above * shares, shares)
-    return np.dot(above, shares) - count * math.log1p(mean / size), fall
-
-
 class NegativeBinomial(Family):
     """Negative binomial laws. The parameters are the size k and 1 - p; the mean is k (1 - p) / p."""
 
@@ -123,14 +107,20 @@ class NegativeBinomial(Family):
         """Returns the parameters; None if the numbers vary no more than under a Poisson law. The score has a single
         root if the variance with the divisor n is above the mean, else none (Levin and Reeds, Compound multinomial
         likelihood functions are unimodal, 1977)."""
-        if sample.squares <= sample.total:
-            return None
-        score = partial(score_of_size, sample.above, sample.size, sample.mean)
-        low = math.log(LEAST_SIZE)
+        from scipy.optimize import brentq  # which takes long to import
+
+        def score(logarithm: float) -> float:
+            """Returns the derivative of the likelihood's logarithm by the size, whose logarithm is given. In it,
+            digamma(n + size) - digamma(size) is a sum over 0 to n - 1."""
+            size = math.exp(logarithm)
+            rise = sample.above @ (1 / (steps + size))
+            return float(rise - sample.size * math.log1p(sample.mean / size))
+
+        steps = np.arange(sample.most)
         high = math.log(MOST_SIZE)
-        if score(high)[0] >= 0:
+        if sample.squares <= sample.total or score(high) >= 0:
             return None
-        size = math.exp(root_of(score, low, high))
+        size = math.exp(brentq(score, math.log(LEAST_SIZE), high, xtol=ROOT))
         return size, sample.mean / (size + sample.mean)
 
     def logarithms(self, values: Whole, *parameters: Any) -> Floats:
@@ -190,26 +180,6 @@ class NegativeBinomial(Family):
         return sizes, likelihoods + special.betaln(
             counted * sample.size * sizes, counted * sample.total
         )
-
-
-def root_of(
-    function: Callable[[float], tuple[float, float]], low: float, high: float
-) -> float:
-    """Returns where a function falls below 0 between two places, by Newton's method, which halves the range if it would
-    leave it. The function returns its slope too."""
-    place = (low + high) / 2
-    while True:
-        value, slope = function(place)
-        if value > 0:
-            low = place
-        else:
-            high = place
-        step = place - value / slope if slope else low
-        if not low < step < high:
-            step = (low + high) / 2
-        if abs(step - place) <= ROOT:
-            return step
-        place = step
 
 
 def greatest_mean(sample: Sample) -> float:

@@ -23,8 +23,7 @@ from typing import NamedTuple
 import numpy as np
 from scipy import special
 
-from ..chances import DEMANDS, Floats, Whole, add_times, blurred
-from ..compiled import compiled
+from ..chances import DEMANDS, Floats, Whole, blurred
 from ..formats import MOST_DEMAND
 from .count_laws import ways
 from .sample import Sample
@@ -39,10 +38,7 @@ SHARE_POINTS, MEAN_POINTS = 10, 8  # in a cell
 SHAPE = (SHARE_CELLS, MEAN_CELLS, len(DISPERSIONS))
 FLAT: Floats = np.full((SHARE_CELLS, SIZE_CELLS), 1 / (SHARE_CELLS * SIZE_CELLS))
 MOST_SIZE = 1 + MEANS[1]  # the greatest mean size of a demand
-LEAST_TAIL, LEVELS = (
-    1e-9,
-    10,
-)  # what is cut off the law of a size, and the powers of ten from 1 to that
+LEAST_TAIL = 1e-9  # what is cut off the law of a size
 CHUNK = 250  # histories that are computed with at once: as many as a processor's cache has room for
 LEAST_LIKELIHOOD = 1e-30  # Smaller ones count for nothing; their products would be denormal numbers, which are slow.
 STEPS = 100  # of the estimate of a prior
@@ -93,22 +89,6 @@ def size_laws() -> tuple[Floats, ...]:
         )
         laws.append(special.softmax(logarithms, axis=1))
     return tuple(laws)
-
-
-@cache
-def size_table() -> tuple[Floats, Whole]:
-    """Returns all laws of sizes one after the other, and the ends of those of each cell, from 0 on."""
-    laws = [law.ravel() for law in size_laws()]
-    return np.concatenate(laws), np.cumsum([0, *map(len, laws)])
-
-
-@cache
-def size_widths() -> Whole:
-    """Returns after how many sizes what is left of the laws of each cell is at most 1, 0.1 and so on to 1e-9: of its
-    greatest mean, of which most is left."""
-    least = np.array([[10.0**-level] for level in range(LEVELS)])
-    tails = [1 - np.cumsum(law[-1]) for law in size_laws()]
-    return np.array([np.argmax(tail <= least, axis=1) + 1 for tail in tails])
 
 
 def _scaled(logarithms: Floats) -> Floats:
@@ -180,32 +160,9 @@ class CellLikelihoods(NamedTuple):
 
     def expected(self, prior: Floats) -> Floats:
         """Returns the sum of the likelihoods of each cell, each over that of its history under a prior."""
-        return expected_of(*self, prior)
-
-
-@compiled
-def expected_of(
-    shares: Floats, sizes: Floats, starts: Whole, groups: Whole, prior: Floats
-) -> Floats:
-    """Returns `Cells.expected`."""
-    cells = np.zeros(prior.shape)
-    own = np.empty(prior.shape[1])
-    likely = np.empty(prior.shape[1])
-    for group in range(len(starts)):
-        possible = np.flatnonzero(shares[group])
-        own[:] = likely[:] = 0.0
-        for share in possible:
-            add_times(own, prior[share], shares[group, share])
-        for history in range(
-            starts[group], starts[group + 1] if group + 1 < len(starts) else len(sizes)
-        ):
-            marginal = 0.0
-            for cell in range(len(own)):
-                marginal += own[cell] * sizes[history, cell]
-            add_times(likely, sizes[history], 1 / marginal)
-        for share in possible:
-            add_times(cells[share], likely, shares[group, share])
-    return cells
+        weighed = self.sizes / self.marginal(prior)[:, None]
+        likely = np.add.reduceat(weighed, self.starts)
+        return np.asarray(np.einsum("ij,ik->jk", self.shares, likely))
 
 
 def group_of(sample: Sample) -> tuple[int, int]:

@@ -16,14 +16,12 @@ from typing import NamedTuple
 import numpy as np
 
 from ..chances import Floats, Whole
-from ..compiled import compiled
 from ..formats import MOST_DEMAND
 
 # A pack is recognised after so many demands above 0, if they all have its divisor by luck with a chance of 2^-8.
 PACKED = 3
 PACK_BITS = 8.0
 TIMES, SEED = 199, 1  # of drawn histories
-COUNTED = 32  # uniform numbers, after which those of each row are counted
 ROUNDING = 1e-9  # Histories with the same counts vary as much and are as far, however their sums are rounded.
 
 
@@ -158,87 +156,20 @@ def distances(histories: Whole, law: Summed) -> Floats:
     )
 
 
-class Uniform(NamedTuple):
-    """Uniform numbers for drawn histories, a row for each: the numbers of all rows, rising; the row of each, and its
-    place in that; and how many numbers of each row are among the first ones, once in so many.
-    """
-
-    rising: Floats
-    rows: Whole
-    places: Whole
-    first: Whole
-
-    @classmethod
-    def of(cls, numbers: Floats) -> Uniform:
-        """Takes rows of rising numbers."""
-        order = np.argsort(numbers, axis=None)
-        rows, places = np.divmod(order, numbers.shape[1])
-        parts = [
-            np.bincount(part, minlength=len(numbers))
-            for part in np.array_split(rows, range(COUNTED, len(rows) + 1, COUNTED))
-        ]
-        return cls(
-            numbers.ravel()[order],
-            rows,
-            places,
-            np.cumsum([0 * parts[0], *parts], axis=0),
-        )
-
-
-@compiled
-def drawn_figures(
-    rising: Floats,
-    rows: Whole,
-    places: Whole,
-    first: Whole,
-    last: int,
-    below: Floats,
-    tails: Floats,
-    means: Floats,
-) -> tuple[Floats, Floats]:
-    """Returns of histories that are drawn by uniform numbers (see `Uniform`) their squared size times their variance,
-    and their `distances`. No number is above the last one. The draws of a number stand together: they are counted one
-    by one, or row by row if there are many."""
-    times = first.shape[1]
-    size = len(rising) // first.shape[1]
-    rank = 0
-    seen = np.zeros(times, np.int64)
-    now = np.zeros(times, np.int64)
-    totals = np.zeros(times)
-    squares = np.zeros(times)
-    far = np.zeros(times)
-    for number in range(last + 1):
-        end = len(rising) if number == last else np.searchsorted(rising, below[number])
-        mean = 2 * means[number]
-        while end - rank < times // 2 and rank < end:
-            row = rows[rank]
-            seen[row] = seen[row] + 1
-            totals[row] = totals[row] + number
-            squares[row] = squares[row] + number * number
-            far[row] += (2 * places[rank] + 1) / size * tails[number] - mean
-            rank += 1
-        if rank < end:
-            rank = end
-            now[:] = first[end // COUNTED]
-            for row in rows[end - end % COUNTED : end]:
-                now[row] += 1
-            for row in range(times):
-                more = now[row] - seen[row]
-                totals[row] = totals[row] + more * number
-                squares[row] = squares[row] + more * number * number
-                far[row] += (
-                    (now[row] + seen[row]) / size * tails[number] - mean
-                ) * more
-            seen[:] = now
-    return size * squares - totals**2, far
-
-
 @functools.lru_cache(maxsize=8)
-def uniforms(size: int) -> Uniform:
-    """Returns uniform numbers for drawn histories of a size."""
-    return Uniform.of(
-        np.sort(np.random.default_rng(SEED).random((TIMES, size)), axis=1)
-    )
+def uniforms(size: int) -> tuple[Floats, Whole]:
+    """Returns uniform numbers, rising, for all drawn histories of a size, and the places of those of each history among
+    them: rows that rise too."""
+    rows = np.sort(np.random.default_rng(SEED).random((TIMES, size)), axis=1)
+    ranks = np.argsort(np.argsort(rows, axis=None))
+    return np.sort(rows, axis=None), ranks.reshape(rows.shape)
+
+
+def drawn(below: Floats, rising: Floats) -> Whole:
+    """Returns numbers that are drawn from a law, by its chances up to each number and by rising uniform numbers. None is
+    above the last number of the law."""
+    ends = np.append(np.searchsorted(rising, below[:-1]), len(rising))
+    return np.repeat(np.arange(len(ends)), np.diff(ends, prepend=0))
 
 
 def shares_of(sample: Sample, chances: Floats) -> Shares:
@@ -248,8 +179,12 @@ def shares_of(sample: Sample, chances: Floats) -> Shares:
     summed = Summed.of(law)
     size = sample.size
     below = summed.below
-    squares, far = drawn_figures(*uniforms(size), len(chances) - 1, *summed)
+    rising, ranks = uniforms(size)
+    histories = drawn(below[: len(chances)], rising)[ranks]
+    sums = histories.sum(axis=1)
+    squares = size * np.einsum("ij,ij->i", histories, histories) - sums**2
     own = size * sample.squares
+    far = distances(histories, summed)
     common = size * float(law @ below**2)
     own_far = float(distances(np.repeat(sample.values, sample.counts)[None], summed)[0])
     alike = (
