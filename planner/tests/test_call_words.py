@@ -128,7 +128,7 @@ REFUSED: list[tuple[str, dict[str, Any], str]] = [
     ("plan", {"sales": SALES.to_numpy()}, "sales: ndarray is no table with headings"),
     ("plan", {"sales": {"item": [1], "date": [2, 3]}}, "sales: no table: All arrays"),
     ("plan", {"masters": pd.Series([1])}, "masters: a Series is no table"),
-    ("plan", {"jobs": -1}, "jobs=-1 is not from 1 to 1,024"),
+    ("plan", {"jobs": -1}, "jobs: -1 is not from 1 to 1,024"),
     ("plan", {"periods": 2.5}, "periods: 2.5 is not a whole number"),
     ("plan", {"net": 1}, "net: 1 is neither true nor false"),
     ("plan", {"every": 7}, "every: 7 is not one of day, week, month"),

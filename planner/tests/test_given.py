@@ -12,7 +12,8 @@ import pytest
 
 import crnplan as crn
 from crnplan.errors import Refused
-from crnplan.given import COMMON, words_of
+from crnplan.given import COMMON
+from crnplan.vocabulary import words_of
 from planner.tests.test_call_words import FAST, MASTERS, SALES
 
 OWN = {name: value for name, value in FAST.items() if name != "jobs"}

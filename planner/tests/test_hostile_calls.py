@@ -15,10 +15,10 @@ import pytest
 
 import crnplan as crn
 from crnplan.arguments import word_of
-from crnplan.options import within
-from crnplan.read.judging import KINDS
+from crnplan.read.frames import TABLE
+from crnplan.vocabulary import NUMBER
 from planner.tests.test_call_words import FAST, MASTERS, SALES, WEEKS
-from planner.tests.test_options import OF_CALLS
+from planner.tests.test_options import OF_CALLS, within
 
 # Makes values that few arguments take. A generator is used up, so each call gets its own.
 HOSTILE: dict[str, Callable[[], Any]] = {
@@ -218,13 +218,13 @@ def test_hostile_arguments(
 
 
 def test_each_word_is_an_argument(things: Mapping[str, Any]) -> None:
-    """Each word of calls alone is an argument of a public call, and each kind of it is one that is read."""
+    """Each word of calls alone is an argument of a public call, and its kind follows from the first table that has it."""
     taken = set[str]()
     for name in public():
         taken |= {*arguments_of(called(name, things)[0])}
     words = [word for table in OF_CALLS for word in within(table)]
     assert {word.name for word in words} <= taken
-    assert {word.kind for word in words} <= KINDS.keys()
     own, of_calls = word_of("orders", ("curve", "call")), word_of("orders", ("call",))
-    assert own and of_calls and (own.kind, of_calls.kind) == ("number", "table")
+    assert own and own.kind.read is NUMBER.read
+    assert of_calls and of_calls.kind.read is TABLE.read
     assert word_of("level", ("curve",)) is None

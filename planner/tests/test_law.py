@@ -154,7 +154,7 @@ WRONG: dict[str, tuple[Make, str]] = {
     "uneven": (lambda: Law((2, 1), (1,)), "there are 2 values and 1 weights"),
     "low weight": (lambda: Law((1, 2), (-1, 2)), "weights: -1 is below 0"),
     "zeros": (lambda: Law((1, 2), (0, 0)), "no weight is above 0"),
-    "factor": (lambda: Law((1,), (1,)).times(-1), "factor=-1.0 is not at least 0"),
+    "factor": (lambda: Law((1,), (1,)).times(-1), "factor: -1.0 is not at least 0"),
 }
 
 

@@ -4,7 +4,8 @@ from __future__ import annotations
 import pytest
 
 from crnplan.cli import COMMANDS, options_of
-from crnplan.options import CALL, Option, declared, option, table_of, within
+from crnplan.options import CALL, KINDS, declared, option
+from crnplan.vocabulary import Word
 from planner.tests.conftest import Command
 
 MOST_OPTIONS, MOST_LINES = 16, 100
@@ -19,17 +20,18 @@ OF_CALLS = (
 )  # tables whose words are arguments of calls
 
 
+def within(table: str) -> list[Word]:
+    """Returns the words of a table."""
+    return [option(f"{table}.{name}") for name in declared()[table]]
+
+
 def test_each_word_is_used() -> None:
     """Each word is an option of a command, and each option of a command has a help."""
     used = [word for command in COMMANDS for word in options_of(command)]
     for table in declared():
-        if table not in OF_CALLS:
+        if table not in (KINDS, *OF_CALLS):
             assert [word.name for word in within(table) if word not in used] == []
-    unsaid = {
-        word.flag
-        for word in used
-        if not word.help and not (isinstance(word, Option) and word.positional)
-    }
+    unsaid = {word.flag for word in used if not word.help and not word.positional}
     assert unsaid == set()
     assert len({word.flag for word in options_of("plan")}) == len(
         COMMANDS["plan"]["options"]
@@ -49,8 +51,7 @@ def test_options_of_a_command(
 
 def test_references() -> None:
     """Constants of the package stand for ends, choices and defaults, and are spelt in a help."""
-    assert option("call.period").choices == ("day", "week", "month")
-    assert "left_out" in option("today.table").choices
+    assert option("call.period").kind.choices == ("day", "week", "month")
+    assert "left_out" in option("today.table").kind.choices
     with pytest.raises(KeyError):
         option("common.nothing")
-    assert "jobs" in table_of("common")

@@ -6,7 +6,7 @@ from collections.abc import Mapping
 from pathlib import Path
 from typing import Any
 
-from .read.judging import judged
+from .arguments import judged
 from .catalogues import (
     Catalogue,
     Lost,
@@ -31,9 +31,9 @@ from .read.opening import Table
 from .read.law_forms import LAWS
 from .read.moves import OUT
 from .read.overriding import set_overrides
-from .read.stated_laws import StatedTable, laws_frame
+from .read.stated_laws import StatedTable
 from .read.configuration import made_from
-from .vocabulary import words_in
+from .vocabulary import words_of
 
 
 # The words of `read_catalogue` that other calls name otherwise.
@@ -54,8 +54,7 @@ def rules_of(
         )
     given = {name for name, table in tables.items() if table is not None}
     there = {OF_READING.get(name, name) for name in given}
-    own = {name for name, word in words_in(Reading).items() if not word.hidden}
-    others = own & words.keys() - there
+    others = words_of(Reading).keys() & words.keys() - there
     if given or others:
         asked = ", ".join(f"{name}=.." for name in sorted(there | others))
         raise Refused(
@@ -74,12 +73,12 @@ def take_tables(
     out_of_stock: Table | None,
     words: Reading,
     jobs: int | None,
-    laws: StatedTable | None = None,
+    laws: Any = None,
 ) -> None:
     """Reads a catalogue into a folder by so many processes, or copies one that was read elsewhere."""
     if not isinstance(sales, Catalogue):
         tables = {"demand": sales, "items": masters, "orders": orders}
-        more = {OUT: out_of_stock, LAWS: laws_frame(laws)}
+        more = {OUT: out_of_stock, LAWS: laws}
         read_into(folder, {**tables, **more}, words, jobs)
     elif sales.path.resolve() != folder.store(READ).resolve():
         part = folder.room() / Path(READ).name

@@ -7,7 +7,7 @@ from pathlib import Path
 from typing import TYPE_CHECKING, ClassVar
 
 from .api import rules_of, take_tables
-from .read.judging import judged
+from .arguments import judged
 from .catalogues import Catalogue, warn_of_lost
 from .given import COMMON, joined, taken, taking
 from .plan.how import Settings

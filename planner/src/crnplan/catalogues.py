@@ -8,7 +8,7 @@ from dataclasses import dataclass, field
 from pathlib import Path
 from typing import TYPE_CHECKING, Any, cast
 
-from .read.judging import judged
+from .arguments import judged
 from .errors import CrnplanError, Failed, argument
 from .spelling import worded
 from .given import COMMON, joined, taken, taking
@@ -31,15 +31,17 @@ from .read.catalogue_reading import (
     missing_of,
     read_alone,
 )
+from .read.frames import DEMAND
 from .read.items import Counts, Reading
 from .read.lateness import receipt_remarks
 from .read.law_forms import LAWS
 from .read.moves import OUT
 from .read.opening import Table
-from .read.stated_laws import StatedTable, laws_frame
+from .read.stated_laws import StatedTable
 from .read.configuration import merged, told_of
 from .remarks import Remark
 from .table import Json
+from .vocabulary import Kind
 from .words import advised, sentence
 
 if TYPE_CHECKING:
@@ -135,6 +137,14 @@ class Catalogue:
         reason, advice, and rows (of demand that are left out)."""
         with self.opened() as read:
             return rejects_of(read.rejects(), read.fact("keys")).frame
+
+
+def read_sales(value: Any) -> Any:
+    """Returns a table of demand, or a catalogue that was read."""
+    return value if isinstance(value, Catalogue) else DEMAND.read(value)
+
+
+SALES = Kind(read_sales)
 
 
 def warn_of_lost(catalogue: Catalogue) -> None:
@@ -239,8 +249,8 @@ def read_catalogue(
     """
     rules = taken(Reading, joined(words, reading=reading))
     room = Room("pickle the tables, and read them where they are needed")
-    tables = {"demand": demand, "items": items, "orders": orders, OUT: out_of_stock}
-    tables[LAWS] = laws_frame(laws)
+    tables: dict[str, Any] = {"demand": demand, "items": items, "orders": orders}
+    tables |= {OUT: out_of_stock, LAWS: laws}
     read = Catalogue(read_alone(room.path, tables, rules, jobs), room)
     warn_of_lost(read)
     return read

@@ -6,18 +6,17 @@ from collections.abc import Callable, Collection, Mapping
 from pathlib import Path
 from typing import Any, TypeVar
 
-from .read.judging import judged
+from .arguments import judged
 from .errors import Refused, argument
 from .options import CALL, SEEN
 from .plan.how import Settings
 from .plan.settings import read_config as config_in
 from .read.items import Reading
 from .read.configuration import made_from
-from .vocabulary import Vocabulary, Word, words_in
+from .vocabulary import Vocabulary, explain, words_in, words_of
 
 Call = TypeVar("Call", bound=Callable[..., Any])
 Made = TypeVar("Made", bound=Vocabulary)
-RETURNS = "Returns\n-------"  # before what a call returns, in its docstring
 # The words that a call shows among its own arguments; it takes the others too.
 COMMON = (
     *("columns", "units", "every", "start", "end", "holding_rate", "fill", "service"),
@@ -40,36 +39,24 @@ def joined(words: Mapping[str, Any], **values: Vocabulary | None) -> dict[str, A
     return known
 
 
-def taking(
-    *kinds: type, shown: Collection[str] | None = None
-) -> Callable[[Call], Call]:
+def taking(*kinds: type, shown: Collection[str]) -> Callable[[Call], Call]:
     """Returns a decorator of a call that takes the words of some classes. Its docstring and the signature that users see
-    have those that are `shown`, by default all."""
+    have those that are `shown`."""
 
     def made(function: Call) -> Call:
         signature = inspect.signature(function)
         *own, rest = signature.parameters.values()
         names = {part.name for part in own}
         words = [word for word in words_of(*kinds).values() if word.name not in names]
-        seen = [word for word in words if shown is None or word.name in shown]
-        ends = [] if shown is None else [rest]
+        seen = [word for word in words if word.name in shown]
         whole = [*own, *(word.parameter for word in words)]
-        visible = [*own, *(word.parameter for word in seen), *ends]
+        visible = [*own, *(word.parameter for word in seen), rest]
         setattr(function, "__signature__", signature.replace(parameters=whole))
         setattr(function, SEEN, signature.replace(parameters=visible))
-        heading = "Other Parameters" if own[1:] else "Parameters"
-        lines = [heading, "-" * len(heading), *(word.entry for word in seen)]
-        text, returned, more = (inspect.getdoc(function) or "").partition(RETURNS)
-        function.__doc__ = "\n".join([text, *lines, "", returned + more]).strip()
+        explain(function, seen, "Other Parameters", "Returns")
         return function
 
     return made
-
-
-def words_of(*kinds: type) -> dict[str, Word]:
-    """Returns the words of some classes by name, each from where it is declared."""
-    known = [word for kind in kinds for word in words_in(kind).values()]
-    return {word.name: word for word in known if not word.hidden}
 
 
 def taken(kind: type[Made], known: Mapping[str, Any]) -> Made:

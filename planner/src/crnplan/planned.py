@@ -10,7 +10,7 @@ from typing import TYPE_CHECKING, Any, ClassVar, SupportsIndex
 
 from .curve.exchange_curve import ExchangeCurve, exchange_curve
 from .drawing.pictures import Picture, savings_picture
-from .read.judging import judged
+from .arguments import judged
 from .catalogues import Catalogue
 from .given import taken, taking
 from .read.items import Reading

@@ -8,7 +8,7 @@ from typing import TYPE_CHECKING
 from .crnsim.report import COLUMNS, MONEY_COLUMNS, ReportRow, csv_of, rows_of_run
 from .decide.verdicts import Decision, decided
 from .policies import Policies, Policy, policies_of
-from .read.judging import judged
+from .arguments import judged
 from .scenario import ScenarioData
 from .table import DataTable, Json, Result
 

@@ -4,16 +4,15 @@ A door is a call, an option of a command, a key of crnplan.toml or a field of th
 """
 from __future__ import annotations
 
-import dataclasses
 import datetime
 import inspect
 import re
 import textwrap
-from collections.abc import Callable, Iterable, Iterator, Mapping, Sequence
-from dataclasses import dataclass, field, fields
+from collections.abc import Callable, Iterable, Mapping, Sequence
+from dataclasses import dataclass, field, fields, replace
 from difflib import get_close_matches
 from fractions import Fraction
-from functools import partial
+from functools import cache, partial
 from typing import Any, TypeVar
 
 from .errors import Refused, argument
@@ -24,18 +23,19 @@ Read = Callable[[Any], Any]
 Made = TypeVar("Made", bound=type)
 Value = TypeVar("Value")
 WIDTH = 110  # of the lines of a docstring
-# How a door asks for a word: for a text, one of some texts, a flag, several texts, or texts by name.
-TEXT, CHOICE, FLAG, TEXTS, PAIRS, DATE = (
+# How a door asks for a word: for a text, one of some texts, a flag, several texts, texts by name, a date, or a form of what
+# is printed.
+TEXT, CHOICE, FLAG, TEXTS, PAIRS, DATE, FORM = (
     "text",
     "choice",
     "flag",
     "texts",
     "pairs",
     "date",
+    "form",
 )
 SAYS = {"true": True, "yes": True, "false": False, "no": False}
 WORD = "word"  # the metadata of a field that is a word
-DECLARED = "__words__"  # the attribute of a class with its words
 UNNAMED = re.compile(r"[\x00\ud800-\udfff]")  # what no file or item has in its name
 
 
@@ -60,38 +60,36 @@ class RefusedEntries(Refused):
 @dataclass(frozen=True)
 class Kind:
     """What stands at a word. `read` returns what a value means, or raises Refused; `type` says it in the reference, `metavar`
-    and `shape` in a command and on a page."""
+    and `shape` in a command and on a page, and `ends` those of a range behind the help of a command.
+    """
 
     read: Read
-    type: str
+    type: str = ""
     metavar: str = "TEXT"
     shape: str = TEXT
     choices: Sequence[str] = ()
+    ends: str = ""
 
 
 @dataclass(frozen=True)
 class Word:
-    """A word of reading or of planning: `name` as an argument of a call, `flag` as an option, and `key` in crnplan.toml,
-    empty if it is none there. One that is `hidden` is declared elsewhere."""
+    """A word that a user says: `name` as an argument of a call, `flag` as an option, and `key` in crnplan.toml, empty if it
+    is none there. One that is `hidden` is declared elsewhere. A command takes one that is `positional` without its flag, and
+    shows in its help a default that is `shown`."""
 
     kind: Kind
-    help: str
+    help: str = ""
     name: str = ""
     flag: str = ""
     key: str = ""
     default: Any = None
     hidden: bool = False
-
-    def read(self, value: Any) -> Any:
-        """Returns what a value means. Raises Refused."""
-        if is_missing(value) or isinstance(value, str) and not value:
-            what = f"{shown(value)} is not known"
-            raise Refused(what, "leave it out, or write a value")
-        return self.kind.read(value)
+    positional: bool = False
+    shown: bool = False
 
     def meant(self, value: Any) -> Any:
         """Returns what a value means. Raises Refused with the name of the word."""
-        return read_argument(self.name, value, self.read)
+        return read_argument(self.name, value, self.kind.read)
 
     @property
     def entry(self) -> str:
@@ -117,42 +115,42 @@ def word(
     help: str = "",
     *,
     flag: str = "",
-    key: str | None = "",
+    key: str | None = None,
     hidden: bool = False,
 ) -> Any:
-    """Declares a field of a class as a word. Without a `key` its key is its name; with None it has none."""
-    stated = {"kind": kind, "help": help, "flag": flag, "key": key, "hidden": hidden}
-    metadata = {WORD: stated}
-    if isinstance(default, dict):
-        return field(default_factory=dict, metadata=metadata)
-    return field(default=default, metadata=metadata)
+    """Declares a field of a class as a word. Without a `key` its key is its name; with an empty one it has none."""
+    kind = replace(kind, read=partial(read_known, kind.read))
+    make = partial(Word, kind, help, default=default, hidden=hidden)
+    return field(default=default or None, metadata={WORD: (make, flag, key)})
 
 
-def default_of(part: dataclasses.Field[Any]) -> Any:
-    """Returns the value of a field if none is given."""
-    if part.default_factory is dataclasses.MISSING:
-        return part.default
-    return part.default_factory()
+def read_known(read: Read, value: Any) -> Any:
+    """Returns what a value means. Raises Refused for one that says that there is none."""
+    if is_missing(value) or isinstance(value, str) and not value:
+        what = f"{shown(value)} is not known"
+        raise Refused(what, "leave it out, or write a value")
+    return read(value)
 
 
-def words_in(kind: type) -> Mapping[str, Word]:
+def _words_in(kind: Any) -> Mapping[str, Word]:
     """Returns the words of a class by name."""
-    if DECLARED not in vars(kind):
-        setattr(kind, DECLARED, {one.name: one for one in declared(kind)})
-    words: Mapping[str, Word] = getattr(kind, DECLARED)
+    words = dict[str, Word]()
+    for part in fields(kind):
+        if WORD in part.metadata:
+            make, flag, key = part.metadata[WORD]
+            flag = "--" + (flag or part.name.replace("_", "-"))
+            key = part.name if key is None else key
+            words[part.name] = make(name=part.name, flag=flag, key=key)
     return words
 
 
-def declared(kind: Any) -> Iterator[Word]:
-    """Yields the words that the fields of a class declare."""
-    for part in fields(kind):
-        stated = dict(part.metadata.get(WORD, {}))
-        if stated:
-            name, key = part.name, stated.pop("key")
-            flag = "--" + (stated.pop("flag") or name.replace("_", "-"))
-            key = name if key == "" else key or ""
-            known = default_of(part)
-            yield Word(**stated, name=name, flag=flag, key=key, default=known)
+words_in: Callable[[Any], Mapping[str, Word]] = cache(_words_in)
+
+
+def words_of(*kinds: type) -> dict[str, Word]:
+    """Returns the words of some classes by name, each from where it is declared."""
+    known = [word for kind in kinds for word in words_in(kind).values()]
+    return {word.name: word for word in known if not word.hidden}
 
 
 def plain(value: Any) -> Any:
@@ -178,19 +176,19 @@ class Vocabulary:
 
     def __init__(self, **given: object) -> None:
         words, said = words_in(type(self)), dict[str, Any]()
-        parts = fields(self)
-        unknown = given.keys() - {part.name for part in parts}
+        known = {part.name: part.default for part in fields(self)}
+        unknown = given.keys() - known
         if unknown:
             raise TypeError(
                 f"{type(self).__name__}() got an unexpected keyword argument {min(unknown)!r}"
             )
-        for part in parts:
-            value = given.get(part.name)
+        for name, default in known.items():
+            value, word = given.get(name), words.get(name)
             if value is None:
-                value = default_of(part)
-            elif part.name in words:
-                value = said[part.name] = words[part.name].meant(value)
-            object.__setattr__(self, part.name, value)
+                value = word.default if word else default
+            elif word:
+                value = said[name] = word.meant(value)
+            object.__setattr__(self, name, value)
         object.__setattr__(self, "given", said)
         self._check()
 
@@ -202,13 +200,19 @@ class Vocabulary:
         return f"{type(self).__name__}({', '.join(said)})"
 
 
+def explain(thing: Any, words: Iterable[Word], heading: str, before: str) -> None:
+    """Adds words to a docstring under a heading, before another one."""
+    end = f"{before}\n{'-' * len(before)}"
+    text, end, rest = (inspect.getdoc(thing) or "").partition(end)
+    entries = [word.entry for word in words]
+    lines = [text, heading, "-" * len(heading), *entries, "", end + rest]
+    thing.__doc__ = "\n".join(lines).strip()
+
+
 def documented(kind: Made) -> Made:
     """Adds the words of a class to its docstring and to the signature that users see."""
-    words = [one for one in words_in(kind).values() if not one.hidden]
-    entries = [one.entry for one in words]
-    text, examples, rest = (inspect.getdoc(kind) or "").partition("Examples\n--------")
-    lines = [text, "Parameters", "----------", *entries, "", examples + rest]
-    kind.__doc__ = "\n".join(lines).strip()
+    words = words_of(kind).values()
+    explain(kind, words, "Parameters", "Examples")
     signature = inspect.Signature([one.parameter for one in words])
     setattr(kind, "__signature__", signature)
     return kind
@@ -248,21 +252,41 @@ def read_flag(value: Any) -> bool:
     return bool(value)
 
 
+def read_whole(value: Any) -> int:
+    text = value.strip() if isinstance(value, str) else ""
+    is_number = text.removeprefix("-").isdecimal() and len(text) < WIDTH
+    return whole_in(int(text) if is_number else value)
+
+
+def read_number(value: Any) -> float:
+    number = exact(value)
+    if number is None:
+        raise Refused(f"{shown(value)} is no number", "write it as 12.5")
+    return float(number)
+
+
+def within(kind: Kind, least: int, most: int | None = None) -> Kind:
+    """Returns the kind of a number in a range, whose second end may be missing."""
+    said = f"at least {least:,}"
+    ends = f"x>={least}"
+    if most is not None:
+        said = f"from {least:,} to {most:,}"
+        ends = f"{least}<=x<={most}"
+
+    def read(value: Any) -> Any:
+        number = kind.read(value)
+        if number < least:
+            raise Refused(f"{shown(number)} is not {said}", f"write {least:,} or more")
+        if most is not None and number > most:
+            raise Refused(f"{shown(number)} is not {said}", f"write {most:,} or less")
+        return number
+
+    return replace(kind, read=read, type=f"{kind.type}, {said}", ends=ends)
+
+
 def numbers(least: int, most: int) -> Kind:
     """Returns the kind of a whole number in a range."""
-
-    def read(value: Any) -> int:
-        text = value.strip() if isinstance(value, str) else ""
-        is_number = text.removeprefix("-").isdecimal() and len(text) < WIDTH
-        number = whole_in(int(text) if is_number else value)
-        if least <= number <= most:
-            return number
-        end = f"{least:,} or more" if number < least else f"{most:,} or less"
-        raise Refused(
-            f"{shown(number)} is not from {least:,} to {most:,}", f"write {end}"
-        )
-
-    return Kind(read, f"int, from {least:,} to {most:,}", "N")
+    return within(WHOLE, least, most)
 
 
 def several(read: Read) -> Read:
@@ -344,3 +368,5 @@ def by_name(read: Read, type: str, metavar: str) -> Kind:
 
 
 YES = Kind(read_flag, "bool", shape=FLAG)
+WHOLE = Kind(read_whole, "int", "N")
+NUMBER = Kind(read_number, "float", "FLOAT")

@@ -59,7 +59,7 @@ def test_stretches_by_hand() -> None:
 
 @pytest.mark.parametrize("field", ["record", "every", "window"])
 def test_no_periods_are_refused(field: str, tmp_path: Path) -> None:
-    with pytest.raises(Refused, match=f"{field}=0 is not at least 1"):
+    with pytest.raises(Refused, match=f"{field}: 0 is not at least 1"):
         crn.backtest(tmp_path, **{field: 0})
 
 

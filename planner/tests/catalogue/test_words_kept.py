@@ -194,7 +194,7 @@ def test_words_of_a_command_replace_found_ones() -> None:
     dates = made_from(Reading, merged(found, {"date_formats": ["%Y%m%d"]})).rules_of(
         "demand"
     )
-    assert dates.day_first == {}
+    assert dates.day_first is None
     with pytest.raises(crn.Refused, match="is not one of . and ,"):
         made_from(Reading, {"written": {"demand": {"decimal": {"quantity": "x"}}}})
     with pytest.raises(crn.Refused, match="is not one of , and ;"):

@@ -148,7 +148,7 @@ def test_season() -> None:
 
 @pytest.mark.parametrize(
     "season, message",
-    [(1, "season=1 is not from 2 to 65,536"), (2.5, "season: 2.5 ")],
+    [(1, "season: 1 is not from 2 to 65,536"), (2.5, "season: 2.5 ")],
 )
 def test_no_season(season: Any, message: str) -> None:
     with pytest.raises(Refused, match=message):

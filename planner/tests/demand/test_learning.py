@@ -221,7 +221,7 @@ def test_histories_of_frames(mixed: Histories) -> None:
         ({"classes": 5}, "classes: 5 is no list"),
         ({"classes": [[]] * 130}, r"classes: \[\] is no name of a class"),
         ({"least": "x"}, "least: 'x' is not a whole number; write it as 12"),
-        ({"seed": -1}, "seed=-1 is not at least 0"),
+        ({"seed": -1}, "seed: -1 is not at least 0"),
     ],
 )
 def test_hostile_words(words: dict[str, Any], said: str, mixed: Histories) -> None:

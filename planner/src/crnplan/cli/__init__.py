@@ -15,7 +15,7 @@ import tomllib
 import traceback
 from collections.abc import Callable, Mapping
 from contextlib import redirect_stderr, redirect_stdout
-from dataclasses import dataclass
+from dataclasses import dataclass, replace
 from pathlib import Path
 from typing import Any, TextIO
 
@@ -26,8 +26,8 @@ from ..errors import CrnplanError, Failed, Refused
 from ..spelling import escaped, spelt, worded
 from ..store.files import faults_of
 from ..store.interrupts import heed_interrupt, heeding_interrupts
-from ..options import Option, declared, option
-from ..vocabulary import Word
+from ..options import declared, option
+from ..vocabulary import Word, several, words_of
 
 # The threads of linear algebra gain nothing here. Beside other work they wait for one another, busily.
 for _threads in ("OMP_NUM_THREADS", "OPENBLAS_NUM_THREADS"):
@@ -44,10 +44,11 @@ RETIRED: dict[str, str] = tomllib.loads(
 )
 
 
-def options_of(command: str) -> list[Option | Word]:
+def options_of(command: str) -> list[Word]:
     """Returns the options of a command. A name without its table is that of an own option, else of a common one, else a word
-    of reading or planning."""
-    options = list[Option | Word]()
+    of reading or planning. The texts of such a word are kept, and read beside the keys of crnplan.toml.
+    """
+    options = list[Word]()
     for name in COMMANDS[command]["options"]:
         tables = [it for it in (command, "common") if name in declared().get(it, ())]
         if "." in name:
@@ -55,13 +56,14 @@ def options_of(command: str) -> list[Option | Word]:
         elif tables:
             options.append(option(f"{tables[0]}.{name}"))
         else:
-            options.append(known_words()[name])
+            word = known_words()[name]
+            kind = replace(word.kind, read=several(str))
+            options.append(replace(word, kind=kind, default=None))
     return options
 
 
 def known_words() -> Mapping[str, Word]:
     """Returns the words of reading and planning by name."""
-    from ..given import words_of
     from ..plan.how import Settings
     from ..read.items import Reading
 
@@ -81,7 +83,7 @@ class Spelling:
         words = [value] if value else []
         for command in filter(None, (self.command, "plan")):
             for option in options_of(command):
-                if option.name == name and not getattr(option, "positional", False):
+                if option.name == name and not option.positional:
                     return shlex.join([option.flag, *words])
         from ..read.file_kinds import NONE, OF_PLANS
         from .keys import entry_text

@@ -12,7 +12,7 @@ from ..read.configuration import COLUMNS, made_from, merged, stated
 from ..read.items import Reading
 from ..spelling import argument
 from ..toml.documents import shown
-from ..vocabulary import FLAG, PAIRS, TEXTS, Word, near, several
+from ..vocabulary import FLAG, PAIRS, TEXTS, Word, near
 from . import known_words
 
 ALL_KEYS = "the keys that docs/TABLES.md has"
@@ -29,7 +29,7 @@ def words_of(
         said[name].append(value)
     for name in known.keys() & asked.keys():
         if asked[name]:
-            said[name] += several(str)(asked[name])
+            said[name] += asked[name]
     tree = dict(config)
     for name, texts in said.items():
         word = known[name]

@@ -4,101 +4,41 @@ from __future__ import annotations
 import json
 import sys
 from collections.abc import Callable, Collection
-from functools import partial
-from pathlib import Path
 from typing import Any
 
 import click
 from click.core import ParameterSource
 
-import crnplan as crn
-from ..options import Option
-from ..read.judging import KINDS
 from ..table import Result
-from ..vocabulary import PAIRS, TEXTS, Word
+from ..vocabulary import FLAG, FORM, PAIRS, TEXTS, Word
 from . import COMMANDS, options_of
 
-PICTURE = ".svg"
-# The types of options by their kind. All others are texts, but for those whose type depends on more.
-TYPES: dict[str, Any] = {
-    "number": float,
-    "path": click.Path(),
-    "folder": click.Path(path_type=Path),
-    "file": click.Path(dir_okay=False, path_type=Path),
-}
 
+def parameter_of(word: Word) -> Callable[[Callable[..., Any]], Callable[..., Any]]:
+    """Returns a decorator that adds a word to a command, as an option or an argument of texts that the word reads."""
 
-def picture(
-    context: click.Context, parameter: click.Parameter, word: str | None
-) -> Path | None:
-    """Returns the path of a picture, which is SVG. Raises Refused for another ending."""
-    if word is None:
-        return None
-    if not word.lower().endswith(PICTURE):
-        raise crn.Refused(f"{word!r} does not end with {PICTURE}")
-    return Path(word)
+    def read(context: click.Context, parameter: click.Parameter, said: Any) -> Any:
+        return said if said in (None, ()) else word.meant(said)
 
-
-def share(
-    option: Option, context: click.Context, parameter: click.Parameter, text: str | None
-) -> float | None:
-    """Returns a share, as 2% or 0.02. Raises Refused for a number that may be either."""
-    return None if text is None else KINDS[option.kind](option, text)
-
-
-def type_of(option: Option) -> Any:
-    """Returns the type of an option, as click has it. The greatest number of a word that is a key too is checked where all
-    such words are."""
-    if option.kind == "choice":
-        return click.Choice([*option.choices])
-    if option.kind != "whole":
-        return TYPES.get(option.kind)
-    if not option.range:
-        return int
-    least, *most = option.range
-    return click.IntRange(least, most[0] if most else None)
-
-
-def word_parameter(word: Word) -> Callable[[Callable[..., Any]], Callable[..., Any]]:
-    """Returns a decorator that adds a word of reading or planning to a command, as texts that the word reads."""
-    facts: dict[str, Any] = {"metavar": word.kind.metavar, "help": word.help}
-    if word.kind.shape in (TEXTS, PAIRS):
-        facts["multiple"] = True
-        facts["help"] += " May be given several times."
-    return click.option(word.flag, word.name, **facts)
-
-
-def parameter_of(
-    option: Option | Word,
-) -> Callable[[Callable[..., Any]], Callable[..., Any]]:
-    """Returns a decorator that adds an option or an argument to a command."""
-    if isinstance(option, Word):
-        return word_parameter(option)
     facts: dict[str, Any] = {
-        "type": type_of(option),
-        "metavar": option.metavar,
-        "nargs": option.nargs,
+        "type": str,
+        "metavar": word.kind.metavar,
+        "default": word.default,
+        "callback": read,
     }
-    if option.positional:
-        facts |= {"required": option.default is None, "default": option.default}
-        return click.argument(option.name, **facts)
-    facts |= {
-        "help": option.help or None,
-        "default": option.default,
-        "show_default": option.shown or None,
-    }
-    match option.kind:
-        case "flag":
-            facts = {"help": option.help, "is_flag": True}
-        case "form":
-            facts = {"help": option.help, "flag_value": option.flag.removeprefix("--")}
-        case "texts":
-            facts["multiple"] = True
-        case "share":
-            facts["callback"] = partial(share, option)
-        case "picture":
-            facts["callback"] = picture
-    return click.option(option.flag, option.name, **facts)
+    are_several = word.kind.shape in (TEXTS, PAIRS)
+    if word.positional:
+        facts |= {"required": word.default is None, "nargs": -1 if are_several else 1}
+        return click.argument(word.name, **facts)
+    if word.kind.shape == FLAG:
+        return click.option(word.flag, word.name, help=word.help, is_flag=True)
+    if word.kind.shape == FORM:
+        facts["flag_value"] = word.flag.removeprefix("--")
+    help = word.help + " May be given several times." * are_several
+    default = f"default: {word.default}" if word.shown else ""
+    more = "; ".join(filter(None, [default, word.kind.ends]))
+    facts |= {"multiple": are_several, "help": f"{help}  [{more}]" if more else help}
+    return click.option(word.flag, word.name, **facts)
 
 
 def command(

@@ -10,7 +10,7 @@ from functools import cached_property
 from pathlib import Path
 from typing import TYPE_CHECKING, Any, NamedTuple
 
-from ..read.judging import judged
+from ..arguments import judged
 from ..columns import columns_of
 from ..drawing.pictures import Picture
 from ..drawing.rendering import Money

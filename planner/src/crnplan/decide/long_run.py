@@ -16,7 +16,7 @@ from functools import cached_property
 from pathlib import Path
 
 from .. import formats
-from ..read.judging import judged
+from ..arguments import judged
 from ..crnsim.report import ReportRow, policies_in, rows_of_run
 from ..errors import Refused, argument
 from ..remarks import Remark, Value

@@ -9,11 +9,10 @@ from werkzeug.datastructures import MultiDict
 from werkzeug.wrappers import Response as Redirect
 
 from ..errors import Refused
-from ..given import words_of
 from ..plan.how import Settings
 from ..read.items import Reading
 from ..read.configuration import made_from
-from ..vocabulary import FLAG, PAIRS, TEXTS, Word, plain
+from ..vocabulary import FLAG, PAIRS, TEXTS, Word, plain, words_of
 from .files import read_anew, read_last, said_of
 from .front import Front, front, page
 from .kept import Desk

@@ -13,7 +13,7 @@ from ..read.items import Reading
 from ..read.configuration import COLUMNS
 from ..toml.documents import Path as Place, TreeFault
 from ..toml.rules import RANGE, Check, TableCheck, no_faults, read_tables
-from ..vocabulary import RefusedEntries, Word, words_in
+from ..vocabulary import RefusedEntries, Word, words_of
 from .how import Settings
 
 CONFIG = "crnplan.toml"
@@ -25,7 +25,7 @@ def word_check(word: Word, place: str = "") -> Check:
     def check(path: Place, value: Any) -> list[TreeFault]:
         stated = {place: value} if place else value
         try:
-            word.read(stated)
+            word.kind.read(stated)
         except RefusedEntries as whys:
             own = path[:-1] if place else path
             return [
@@ -42,7 +42,7 @@ def word_check(word: Word, place: str = "") -> Check:
 def catalogue_rules() -> TableCheck:
     """Returns the rules of the settings of a catalogue. Other tables of the file are not ours."""
     keys = dict[str, Check]()
-    for word in (*words_in(Reading).values(), *words_in(Settings).values()):
+    for word in words_of(Reading, Settings).values():
         if word.name == COLUMNS:
             keys |= {kind: word_check(word, kind) for kind in ROLES}
         elif word.key:

@@ -13,7 +13,6 @@ import contextlib
 import datetime
 import re
 from collections.abc import Callable, Iterable, Mapping, Sequence
-from types import MappingProxyType
 
 import numpy as np
 
@@ -98,7 +97,7 @@ class DateReader:
         self,
         patterns: Sequence[str] = (),
         every: str | None = None,
-        day_first: Mapping[str, bool] = MappingProxyType({}),
+        day_first: Mapping[str, bool] | None = None,
     ) -> None:
         """Takes patterns of strptime, which stand in place of the usual forms, the period of the record if it is known,
         and by sign whether the day comes first, if that is stated."""
@@ -107,7 +106,7 @@ class DateReader:
         self.notes = dict[str, Remark]()
         self.sides: dict[str, dict[bool, str]] = {
             sign: {first: STATED[first].replace("/", sign)}
-            for sign, first in day_first.items()
+            for sign, first in (day_first or {}).items()
         }
         self.names: dict[str, str] = {}
         self.months: Mapping[str, Mapping[int, str]] = {}

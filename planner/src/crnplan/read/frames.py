@@ -4,14 +4,17 @@ from __future__ import annotations
 import datetime
 import itertools
 import math
+import os
 from collections.abc import Iterator, Mapping
 from decimal import Decimal
 from typing import TYPE_CHECKING, Any, SupportsIndex
 
 import numpy as np
 
+from ..arguments import read_path
 from ..errors import Refused, argument
 from ..money import exact, is_missing
+from ..vocabulary import Kind, entry_name, several
 from .cells import Cell, Shown, text_of
 from .sources import Row, Rules, Sheet
 
@@ -21,14 +24,6 @@ if TYPE_CHECKING:
 CELL_BYTES = 8  # about, as text
 DAY = datetime.timedelta(days=1)
 WHOLE = "int64"  # the type of whole numbers that stand among others, or without a type
-# Tables of demand, and those that may be a Series by item, with the column of its values, by their arguments.
-DEMANDS = ("sales", "demand")
-BY_ITEM = {
-    "stock": "stock",
-    "on_order": "quantity",
-    "placed": "quantity",
-    "quantities": "quantity",
-}
 
 
 class FrameSheet(Sheet):
@@ -126,56 +121,86 @@ def name_of(key: str | SupportsIndex) -> str:
     return text_of(cell_of(key))
 
 
-def table_of(name: str, value: Any) -> pd.DataFrame:
-    """Returns a DataFrame, or what stands for one: columns by name, rows by name, or a Series. Raises Refused with the name
-    of the argument for anything else."""
+def read_name(value: Any) -> str:
+    """Returns a name of an item or a column, as a table has it that is read. Raises Refused."""
+    entry_name(value)
+    return name_of(value)
+
+
+def table_kind(column: str = "", is_demand: bool = False) -> Kind:
+    """Returns the kind of the path of a table, a DataFrame, or what stands for one: columns by name, or rows by name. With a
+    `column` it may be a Series by item too, which has the amounts of that column, and of demand one by date, which is that
+    of the item of its name."""
+
+    def read(value: Any) -> Any:
+        import pandas as pd
+
+        if isinstance(value, (str, os.PathLike)):
+            return read_path(value)
+        if isinstance(value, pd.DataFrame):
+            return value
+        if column and isinstance(value, Mapping):
+            values = [*value.values()]
+            if values and all(map(pd.api.types.is_scalar, values)):
+                value = pd.Series(value)
+        if not isinstance(value, pd.Series):
+            return frame_of(value)
+        return demand_frame(value) if is_demand else item_frame(value, column)
+
+    return Kind(read)
+
+
+def frame_of(value: Any) -> pd.DataFrame:
+    """Returns columns by name, or rows by name, as a table. Raises Refused for anything else."""
     import pandas as pd
 
-    if isinstance(value, pd.DataFrame):
-        return value
-    if isinstance(value, pd.Series):
-        return _frame_of(name, value)
-    if isinstance(value, Mapping) and name in BY_ITEM:
-        values = [*value.values()]
-        if values and all(map(pd.api.types.is_scalar, values)):
-            return _frame_of(name, pd.Series(value))
     rows = value if isinstance(value, list) else [value]
     if rows and all(isinstance(row, Mapping) and row for row in rows):
         try:
             return pd.DataFrame(value)
         except ValueError as why:
             advice = "give a DataFrame, or columns of one length"
-            raise Refused(f"{argument(name)}: no table: {why}", advice) from why
+            raise Refused(f"no table: {why}", advice) from why
     raise Refused(
-        f"{argument(name)}: {type(value).__name__} is no table with headings",
+        f"{type(value).__name__} is no table with headings",
         "give a DataFrame with named columns, or the path of a file",
     )
 
 
-def _frame_of(name: str, series: pd.Series) -> pd.DataFrame:
-    """Returns a Series as a table: one by date is the demand of the item of its name, one by item has the amounts of a
-    table that needs no more. Raises Refused for others."""
+def demand_frame(series: pd.Series) -> pd.DataFrame:
+    """Returns a Series by date, or by item and date, as a table of demand. Raises Refused for others."""
     import pandas as pd
 
     index = series.index
-    is_dated = isinstance(index, (pd.DatetimeIndex, pd.PeriodIndex))
-    if is_dated and name in DEMANDS and series.name is not None:
+    if isinstance(index, pd.MultiIndex):
+        return pd.DataFrame(series.reset_index(name=series.name or "quantity"))
+    if not isinstance(index, (pd.DatetimeIndex, pd.PeriodIndex)):
+        return item_frame(series)
+    if series.name is not None:
         columns = {"item": series.name, "date": index, "quantity": series.to_numpy()}
         return pd.DataFrame(columns)
-    if is_dated and name in DEMANDS:
-        raise Refused(
-            f"{argument(name)}: the Series has no name, so its item is not known",
-            'give it the name of the item, as sales.rename("A-17")',
-        )
-    if name in DEMANDS and isinstance(index, pd.MultiIndex):
-        return pd.DataFrame(series.reset_index(name=series.name or "quantity"))
-    if name in BY_ITEM and not is_dated and not isinstance(index, pd.MultiIndex):
-        columns = {"item": index, BY_ITEM[name]: series.to_numpy()}
-        return pd.DataFrame(columns)
     raise Refused(
-        f"{argument(name)}: a Series is no table with headings",
-        "give a DataFrame with named columns",
+        "the Series has no name, so its item is not known",
+        'give it the name of the item, as sales.rename("A-17")',
     )
+
+
+def item_frame(series: pd.Series, column: str = "") -> pd.DataFrame:
+    """Returns a Series by item as a table with a column of its amounts. Raises Refused for others, and without a column."""
+    import pandas as pd
+
+    others = pd.DatetimeIndex, pd.PeriodIndex, pd.MultiIndex
+    if column and not isinstance(series.index, others):
+        return pd.DataFrame({"item": series.index, column: series.to_numpy()})
+    raise Refused(
+        "a Series is no table with headings", "give a DataFrame with named columns"
+    )
+
+
+NAME = Kind(read_name)
+NAMES = Kind(several(read_name))
+TABLE, DEMAND = table_kind(), table_kind(is_demand=True)
+STOCK, QUANTITIES = table_kind("stock"), table_kind("quantity")
 
 
 def number_of(value: int | float | Decimal, text: str) -> Cell:

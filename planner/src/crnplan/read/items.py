@@ -176,7 +176,7 @@ class Reading(Defaults, Rules):
     today: Day | None = word(
         DAY,
         help="The day of reading: rows after it are left out. By default the computer's date.",
-        key=None,
+        key="",
     )
     net: bool = word(YES, False, "Take quantities below 0 off their period.")
     negate: bool = word(

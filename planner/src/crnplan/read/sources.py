@@ -13,7 +13,7 @@ import itertools
 import re
 from collections import Counter
 from collections.abc import Callable, Iterable, Iterator, Mapping, Sequence, Set
-from dataclasses import dataclass, field
+from dataclasses import dataclass
 from functools import partial
 from pathlib import Path
 from typing import Any, NamedTuple
@@ -132,8 +132,8 @@ class Rules(Vocabulary):
         flag="date-format",
     )
     every: str | None = None
-    decimals: Mapping[str, str] = field(default_factory=dict)
-    day_first: Mapping[str, bool] = field(default_factory=dict)
+    decimals: Mapping[str, str] | None = None
+    day_first: Mapping[str, bool] | None = None
     empty: str | None = word(
         choice(*EMPTY),
         help="An empty cell of demand: a period whose demand is unknown, or none. By default none in a table with a column "
@@ -145,7 +145,7 @@ class Rules(Vocabulary):
 
         :meta private:
         """
-        return self.decimals.get(role, self.decimal)
+        return (self.decimals or {}).get(role, self.decimal)
 
 
 def escape(fault: Any) -> tuple[str, int]:

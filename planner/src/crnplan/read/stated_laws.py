@@ -14,6 +14,7 @@ import numpy as np
 
 from ..law import Law
 from ..remarks import Remark, Value
+from ..vocabulary import Kind
 from .amounts import AMOUNTS, UNITS
 from .cells import (
     Cell,
@@ -25,6 +26,7 @@ from .cells import (
     text_of,
 )
 from .dates import period_of
+from .frames import TABLE
 from .items import Left
 from .law_forms import (
     LAWS,
@@ -206,15 +208,18 @@ MAKERS = {
 }
 
 
-def laws_frame(laws: StatedTable | None) -> Table | None:
-    """Returns laws by item, a dict or a Series of `Law`, as a table of these; anything else as it is."""
+def read_stated(laws: Any) -> Any:
+    """Returns the path of a table, or a table: also that of laws by item, a dict or a Series of `Law`. Raises Refused."""
     import pandas as pd
 
     if not isinstance(laws, (Mapping, pd.Series)):
-        return laws
+        return TABLE.read(laws)
     rows = list[tuple[object, int, int]]()
     for item, law in laws.items():
         if not isinstance(law, Law):
-            return laws
+            return TABLE.read(laws)
         rows += zip(itertools.repeat(item), law.values, law.weights)
     return pd.DataFrame(rows, columns=["item", "value", "weight"])
+
+
+STATED = Kind(read_stated)

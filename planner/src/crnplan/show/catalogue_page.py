@@ -14,7 +14,7 @@ from pathlib import Path
 from typing import NamedTuple, SupportsIndex
 from urllib.parse import quote
 
-from ..read.judging import judged
+from ..arguments import judged
 from ..crnsim.program import find_program
 from ..curve.parts import Point
 from ..curve.exchange_curve import kept_curve, said_of

@@ -16,7 +16,7 @@ from functools import cached_property
 from pathlib import Path
 from typing import TYPE_CHECKING, ClassVar
 
-from ..read.judging import judged
+from ..arguments import judged
 from ..errors import Refused
 from ..store.files import Folder
 from ..money import Currency
