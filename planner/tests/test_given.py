@@ -37,19 +37,13 @@ def test_values_are_as_words(program: Path, is_all: bool) -> None:
 
 
 def test_tests_on_the_past_share_them() -> None:
-    """A backtest takes the same values; its window and its period are those of them, unless it says others."""
-    settings = crn.Settings(window=20, fit="empirical", season="none")
+    """A backtest takes the same values; its period is that of them, unless it says another one."""
+    settings = crn.Settings(fit="empirical", season="none")
     reading = crn.Reading(every="week")
     words: dict[str, Any] = {"record": 30, "jobs": 1}
-    alone = crn.backtest(
-        SALES,
-        MASTERS,
-        window=20,
-        settings=crn.Settings(fit="empirical", season="none", window=20),
-        **words,
-    )
+    alone = crn.backtest(SALES, MASTERS, fit="empirical", season="none", **words)
     tests = crn.backtest(SALES, MASTERS, settings=settings, reading=reading, **words)
-    assert tests == alone and tests.tested.walk.window == 20
+    assert tests == alone and tests.tested.walk.window == 52
     other = crn.backtest(SALES, MASTERS, window=26, settings=settings, **words)
     assert other.tested.walk.window == 26
     with pytest.raises(Refused, match="every is said by itself and in reading"):

@@ -11,7 +11,6 @@ from .catalogues import (
     Catalogue,
     Lost,
     plan_catalogue,
-    settings_of,
     warn_of_lost,
     write_found,
 )
@@ -24,7 +23,6 @@ from .store.clusters import Scheduler
 from .store.means import Means
 from .planned import Plan
 from .show.catalogue_page import CATALOGUE_FILES, write_scenario
-from .plan.backtest.catalogue import check_test
 from .plan.catalogue import check_earlier, planned_folder
 from .read.catalogue_reading import CATALOGUE, READ, read_into
 from .read.opening import Table
@@ -100,7 +98,6 @@ def plan(
     settings: Settings | None = None,
     overrides: Table | None = None,
     after: str | Path | None = None,
-    as_backtest: str | Path | None = None,
     jobs: int | None = None,
     cluster: Scheduler | None = None,
     program: str | Path | None = None,
@@ -144,10 +141,6 @@ def plan(
         The folder of an earlier plan, with the same records or longer ones; nothing is written into it. Items that have not
         changed are not planned again, and `changes` says for each item what has moved and why, and how the earlier policy did
         since.
-    as_backtest : str or Path, optional
-        The folder of a `backtest`. Items are planned by the method that gained most there, of those by which there are plans:
-        on the last periods, as refitted ones, with `correct`, or `together`, the last also for single classes; by their seasons
-        if these gained or were not tested, and not if they lost.
     jobs : int, from 1 to 1,024, optional
         How many processes work; by default one for each processor. The result is the same.
     cluster : str or distributed.Client, optional
@@ -189,9 +182,6 @@ def plan(
     ways = taken(Settings, known)
     earlier = None if after is None else Path(after)
     check_earlier(earlier, None if out is None else Path(out), ways)
-    test = None if as_backtest is None else Path(as_backtest)
-    if test is not None:
-        check_test(test, None if out is None else Path(out))
     room = None
     if out is None:
         room = Room(f"plan with {argument('out', 'FOLDER')}, which keeps it")
@@ -199,7 +189,6 @@ def plan(
     with own_folder(path, CATALOGUE, CATALOGUE_FILES) as folder:
         take_tables(folder, sales, masters, orders, out_of_stock, rules, jobs, laws)
         set_overrides(folder, overrides, rules, earlier)
-        ways, _ = settings_of(folder, ways, test)
         write_found(folder, Catalogue(folder.path / READ), ways)
         means = Means(jobs, cluster, program, progress)
         done = plan_catalogue(folder, ways, means, earlier, learn_again)

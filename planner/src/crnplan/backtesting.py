@@ -126,7 +126,7 @@ def backtest(
     *,
     record: int = 52,
     every: int = 13,
-    window: int | None = None,
+    window: int = 52,
     least_gain: float | None = None,
     reading: Reading | None = None,
     settings: Settings | None = None,
@@ -148,8 +148,7 @@ def backtest(
     - today's policy
     - the plan that aims as `correct` makes it from the records alone
     - that by one price of what is not met for each class of 10 items, as `together`. A class meets together what its items
-      want in the mean. Items weigh alike, unless a plan in the folder says by what they weigh: then its gain is still that of
-      items that weigh alike
+      want in the mean by value. Items without a price are planned by themselves. Its gain is that of items that weigh alike
     - that by months, if the records show a season (a record of two years or more)
     - refitted plans at the level of the last periods, if classes follow it by their records, as `follow`
     - a rule of thumb: exponential smoothing with a normal safety stock
@@ -170,8 +169,8 @@ def backtest(
         The periods from which the first plan is made. An item with fewer than `record` and `every` periods is left out.
     every : int, at least 1, default 13
         The periods from one refitted plan to the next.
-    window : int, at least 1, optional
-        The last periods on which refitted plans are fitted; by default as in `settings`, else 52.
+    window : int, at least 1, default 52
+        The last periods on which refitted plans are fitted.
     least_gain : float, above 0 and below 1, optional
         A share of the cost: refitted levels stay if a change gains less; by default as in `settings`.
     reading : Reading, optional
@@ -215,7 +214,7 @@ def backtest(
     tables = {"masters": masters, "orders": orders, "out_of_stock": out_of_stock}
     rules = rules_of(sales, {**tables, "period": period}, known)
     ways = taken(Settings, known)
-    walk = Walk.of(ways, record, every, window, least_gain)
+    walk = Walk(record, every, window, least_gain or ways.least_gain)
     means = Means(jobs, cluster, shown=progress)
     with tempfile.TemporaryDirectory(prefix="crnplan-") as room, own_folder(
         Path(out or room), CATALOGUE

@@ -20,12 +20,10 @@ from .show.catalogue_page import FOUND, MOST_ROWS, write_catalogue, writing_tabl
 from .show.catalogue_tables import REJECTS, hardly_planned, rejects_of
 from .show.control_tables import controls_of
 from .drawing.rendering import rendered
-from .plan.backtest.catalogue import settings_as
 from .plan.catalogue import planning
 from .plan.survey import Survey
 from .plan.totals import Totals
 from .read.catalogue_reading import (
-    READ,
     Catalogued,
     defaulted,
     missing_of,
@@ -42,7 +40,7 @@ from .read.configuration import merged, told_of
 from .remarks import Remark
 from .table import Json
 from .vocabulary import Kind
-from .words import advised, sentence
+from .words import advised
 
 if TYPE_CHECKING:
     import pandas as pd
@@ -263,18 +261,6 @@ def write_found(folder: Folder, read: Catalogue, settings: Settings) -> str:
     return found
 
 
-def settings_of(
-    folder: Folder, settings: Settings, test: Path | None
-) -> tuple[Settings, list[str]]:
-    """Returns by which settings the catalogue that was read into a folder is planned: the same, or as the test in another
-    folder found best; and what is to be said of that. Raises as `settings_as` does."""
-    if test is None:
-        return settings, []
-    with contextlib.closing(Catalogued(folder.path / READ)) as read:
-        taken, remarks = settings_as(test, read, settings)
-    return taken, [*map(sentence, remarks)]
-
-
 @dataclass(frozen=True)
 class Done:
     """What a run has done: how many items were planned now, and kept from before, whether laws were learned before, the
@@ -298,7 +284,7 @@ def plan_catalogue(
 ) -> Done:
     """Plans the catalogue that was read into a folder, and writes its tables and pages: see `plan`."""
     with planning(folder, settings, means, after, again) as run:
-        planned, work, learned = run.planned, run.work, run.remarks
+        planned, work, learned = run.planned, run.work, run.learned.remarks
         folder.write(REJECTS, rejects_of(planned.read.rejects()).lines)
         survey = Survey(planned, MOST_ROWS)
         with writing_tables(folder, planned) as write:

@@ -62,7 +62,7 @@ def kind_of(
 
 @functools.cache
 def option(place: str) -> Word:
-    """Returns the word at a place of options.toml, as `plan.window`. What it refers to is imported now. Raises KeyError if
+    """Returns the word at a place of options.toml, as `backtest.window`. What it refers to is imported now. Raises KeyError if
     there is none."""
     table, _, name = place.partition(".")
     stated = declared()[table][name]

@@ -164,12 +164,6 @@ def _and_classes(facts: Facts) -> str:
     return f" and {facts['classes']:,} classes" if facts["classes"] else ""
 
 
-def _and_best(facts: Facts) -> str:
-    if facts["best"] == facts["method"]:
-        return ""
-    return f" ({facts['best']} gained more, but no plan is made so)"
-
-
 # What follows from the facts of what may have moved a policy (plan/changes.py, plan/after.py).
 def _in_rows(facts: Facts) -> str:
     return "" if facts["rows"] is None else f" in {counted(facts['rows'], 'row')}"
@@ -337,7 +331,6 @@ DERIVED: dict[str, Derive] = {
     "for a reason": lambda facts: f" ({facts['reason']})" if facts["reason"] else "",
     "and classes": _and_classes,
     "in rows": _in_rows,
-    "and best": _and_best,
     "moves": _moved,
     "policy today": _policy_today,
     "largest": _largest,

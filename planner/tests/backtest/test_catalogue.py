@@ -127,12 +127,12 @@ def test_rows_are_those_of_each_item(made: Path, items: Mapping[str, Item]) -> N
 
 
 def test_items_as_they_were_at_the_end_of_their_records(made: Path) -> None:
-    """What a test learns from, it sees up to that day, and of it the last periods that count."""
-    with contextlib.closing(Records(made / "out" / READ, 40, 30)) as records:
+    """What a test learns from, it sees up to that day."""
+    with contextlib.closing(Records(made / "out" / READ, 40)) as records:
         pairs = [*zip(records.whole_items(), records.items(), strict=True)]
     assert len(pairs) == ITEMS
     for whole, known in pairs:
-        assert known.counts == whole.counts[:40][-30:]
+        assert known.counts == whole.counts[:40]
 
 
 def test_values_of_a_notebook(room: Path) -> None:

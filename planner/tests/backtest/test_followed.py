@@ -23,7 +23,7 @@ from crnplan.plan.choice import choice_of
 from crnplan.plan.following import Following
 from crnplan.plan.how import NONE, Settings
 from crnplan.plan.question import question_of
-from planner.tests.backtest.test_as_backtest import WAYS
+from planner.tests.backtest.test_tested_again import WAYS
 from planner.tests.plan.items import item_of
 
 ITEMS, WEEKS = 24, 130
@@ -74,7 +74,7 @@ def test_levels_by_hand() -> None:
     """Each refit has the levels of its law at the level of its periods; one of a short record those of the law."""
     counts = shifted(np.random.default_rng(2), 2.0)[:110]
     item, walk = item_of(counts=tuple(counts), leads=(1,)), Walk(52, 20, 30)
-    way = Way({}, dataclasses.replace(SETTINGS, following=FOLLOWING), OWN)
+    way = Way(dataclasses.replace(SETTINGS, following=FOLLOWING), OWN)
     walked = Walked(item, SETTINGS, OWN, walk, {FOLLOWED: way})
     run = followed_of(walked)
     assert run and len(run.levels) == 110 and len(run.aims) == 5

@@ -100,22 +100,6 @@ def test_refits_are_plans_of_their_windows(program: Path) -> None:
     )
 
 
-def test_window_of_the_plan_counts_for_all(program: Path) -> None:
-    """If the plan has a window, it is made of the last periods of the record, and so is each refit."""
-    item, settings = item_of(3), alone(window=25)
-    test = backtest_one(item, settings, OWN, WALK)
-    kept = planned(item.part(15, 40), program).chosen
-    assert (test.kept.point, test.kept.level) == kept.levels != past_of(item).kept.point
-    plans = [
-        (planned(item.part(origin - 25, origin), program).chosen, end - origin)
-        for _, origin, end in WALK.stretches(len(item.counts))
-    ]
-    costs = sum(plan.cost * weight for plan, weight in plans)
-    assert test.refitted.promised_cost == pytest.approx(
-        costs / sum(weight for _, weight in plans)
-    )
-
-
 @pytest.mark.parametrize("least", [0.02, 0.3])
 def test_damped_refits(least: float, program: Path) -> None:
     """A refit changes levels if and only if that gains this share of their cost, or they miss a wanted fill rate: by
@@ -269,7 +253,7 @@ def test_corrected_plan_aims_as_the_catalogue(program: Path) -> None:
     aims = Aims(1.0, (Tried(40, 2_000, met),) * 2)
     wanting = item_of(3, backlog=None, fill=Fraction(19, 20))
     settings = dataclasses.replace(alone(), correct=True, aims=aims)
-    ways = {CORRECTED: Way({"correct": True}, settings, OWN)}
+    ways = {CORRECTED: Way(settings, OWN)}
     corrected = backtest_one(wanting, alone(), OWN, WALK, ways).corrected
     answer = plan_one(question_of(wanting.part(0, 40), settings, OWN), str(program))
     assert corrected

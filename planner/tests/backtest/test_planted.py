@@ -1,4 +1,4 @@
-"""Tests methods on made catalogues in which one of them must gain, or none, and plans as these tests found best."""
+"""Tests methods on made catalogues in which one of them must gain, or none."""
 from __future__ import annotations
 
 import contextlib
@@ -14,14 +14,11 @@ import pytest
 
 import crnplan as crn
 from crnplan.api import take_tables
-from crnplan.backtesting import Backtests
 from crnplan.demand.index import Index
 from crnplan.demand.learning import Prior
 from crnplan.demand.seasons import months_of
 from crnplan.spelling import worded
-from crnplan.plan.backtest.as_tested import words_as
 from crnplan.plan.backtest.catalogue import TESTS, methods_of
-from crnplan.plan.backtest.estimates import Estimate
 from crnplan.plan.backtest.lessons import Learning, Records, wanted_shares
 from crnplan.plan.backtest.methods import (
     SEASONAL,
@@ -33,10 +30,9 @@ from crnplan.plan.backtest.methods import (
     seasonal_of,
 )
 from crnplan.plan.backtest.one import Backtest, backtest_one
-from crnplan.plan.backtest.sums import BY_METHOD, Equal, Sums
 from crnplan.plan.choice import choice_of
 from crnplan.plan.how import NONE, Settings
-from crnplan.plan.prices import ITEMS, REST
+from crnplan.plan.prices import REST
 from crnplan.plan.question import question_of
 from crnplan.plan.seasons import Seasons
 from crnplan.read.catalogue_reading import CATALOGUE, READ
@@ -47,8 +43,8 @@ from crnplan.store.files import own_folder
 from crnplan.store.means import Means
 from crnplan.store.stored import Store
 from crnplan.words import sentence
-from planner.tests.backtest.test_as_backtest import WAYS
-from planner.tests.plan.items import SHORT, item_of, tables_of
+from planner.tests.backtest.test_tested_again import WAYS
+from planner.tests.plan.items import item_of, tables_of
 
 OWN = Prior(NONE)
 ITEMS_MADE = 24
@@ -79,7 +75,8 @@ def flat(random: np.random.Generator, place: int) -> list[int]:
 
 
 def write(folder: Path, draw: Any, every: str) -> list[Path]:
-    """Writes the two tables of items that want 95%; of unequal ones each second costs a tenth as much to hold."""
+    """Writes the two tables of items of a class that want 95%, and whose demand of a year has one value; of unequal ones
+    each second costs a tenth as much to hold."""
     folder.mkdir(parents=True)
     random, rows, masters = np.random.default_rng(4), list[Any](), list[Any]()
     for place in range(ITEMS_MADE):
@@ -89,9 +86,13 @@ def write(folder: Path, draw: Any, every: str) -> list[Path]:
             days = pd.date_range("2020-01-01", periods=60, freq="MS").date
         name, holding = f"I-{place:02}", 0.1 if draw is unequal and place % 2 else 1.0
         rows += [(name, *row) for row in zip(days, counts)]
-        masters.append((name, 20 * holding, holding, 0.95, f"1 {every}"))
+        price = round(10_000 / sum(counts[:52]), 2)
+        masters.append((name, 20 * holding, holding, 0.95, f"1 {every}", price, "x"))
     paths = [folder / "demand.csv", folder / "items.csv"]
-    headings = "item,date,quantity", f"item,setup,holding ({every}),fill,lead"
+    headings = (
+        "item,date,quantity",
+        f"item,setup,holding ({every}),fill,lead,price,class",
+    )
     for path, heading, table in zip(paths, headings, (rows, masters)):
         pd.DataFrame(table, columns=heading.split(",")).to_csv(path, index=False)
     return paths
@@ -107,40 +108,15 @@ KINDS: dict[str, tuple[Any, dict[str, Any], str | None]] = {
 }
 
 
-# By which words plans are as those of the method that must gain.
-WORDS: dict[str, dict[str, Any]] = {
-    "unequal": {"together": 0.95, "weigh": "items"},
-    "shifted": {"window": 26},
-}
-
-
-def walk_of(kind: str) -> dict[str, Any]:
-    return KINDS[kind][1]
-
-
-def backtested(room: Path, kind: str) -> tuple[Backtests, list[Path]]:
-    """Returns the test of a catalogue in `past` of a folder, with its tables."""
-    draw, walk, _ = KINDS[kind]
-    paths = write(room / kind, draw, walk.get("period", "week"))
-    return crn.backtest(*paths, out=room / kind / "past", jobs=1, **walk, **WAYS), paths
-
-
 @pytest.mark.parametrize("kind", KINDS)
-def test_what_must_gain(kind: str, tmp_path: Path, program: Path) -> None:
-    """On items that cost unlike to hold one price gains, on a season months, on a shift refits, and on flat demand nothing.
-    Planned as the test found, the catalogue has the words of that method."""
-    tests, paths = backtested(tmp_path, kind)
-    sums = tests.tested.whole
-    assert sums and sums.best == KINDS[kind][2]
+def test_what_must_gain(kind: str, tmp_path: Path) -> None:
+    """On items that cost unlike to hold one price gains, on a season months, on a shift refits, and on flat demand nothing."""
+    draw, walk, best = KINDS[kind]
+    paths = write(tmp_path / kind, draw, walk.get("period", "week"))
+    sums = crn.backtest(*paths, jobs=1, **walk, **WAYS).tested.whole
+    assert sums and sums.best == best
     if kind == "flat":
         assert sums.gains == []
-    words = WORDS.get(kind, {})
-    ways: Any = WAYS | SHORT | {"program": program, "jobs": 1}
-    ways["every"] = walk_of(kind).get("period", "week")
-    as_past = crn.plan(*paths, as_backtest=tmp_path / kind / "past", **ways)
-    plain = crn.plan(*paths, **ways, **words)
-    assert as_past.table.csv == plain.table.csv
-    assert len(as_past.levels) == (ITEMS_MADE * 12 if kind == "seasonal" else 0)
 
 
 # An index of the first half of the year and of the second one, whose mean is 1.
@@ -156,7 +132,7 @@ def test_levels_are_those_of_the_months_of_the_calendar() -> None:
     item = item_of(counts=tuple(counts), unknown=unknown, first=first, leads=(1,))
     own = Settings(fit="empirical", borrow=NONE, every="week")
     settings = dataclasses.replace(own, seasons=SEASONS)
-    ways = {SEASONAL: Way({}, settings, OWN)}
+    ways = {SEASONAL: Way(settings, OWN)}
     walked = Walked(item, own, OWN, Walk(104, 13, 52), ways)
     run, known = seasonal_of(walked), [
         place for place in range(230) if place not in unknown
@@ -183,19 +159,21 @@ def test_items_without_a_season_are_kept() -> None:
     item = item_of(3, counts=tuple(range(1, 131)), group="other")
     own, walk = Settings(fit="empirical", borrow=NONE, every="week"), Walk(104, 13, 52)
     settings = dataclasses.replace(own, seasons=SEASONS)
-    test = backtest_one(item, own, OWN, walk, {SEASONAL: Way({}, settings, OWN)})
+    test = backtest_one(item, own, OWN, walk, {SEASONAL: Way(settings, OWN)})
     assert test.seasonal == test.kept
     assert backtest_one(item, own, OWN, walk).seasonal is None
 
 
 def small(place: int, demands: tuple[int, ...], holding: int) -> Item:
-    """Returns an item with few policies that may be best, by 26 weeks and as many others."""
+    """Returns an item with few policies that may be best, by 26 weeks and as many others. Its price is what it costs to
+    hold."""
     return item_of(
         place,
         name=f"I-{place:02}",
         counts=demands * 7,
         setup=Fraction(4),
         holding=Fraction(holding),
+        price=Fraction(holding),
         backlog=None,
         fill=Fraction(9, 10),
     )
@@ -204,23 +182,27 @@ def small(place: int, demands: tuple[int, ...], holding: int) -> Item:
 SMALL = ((0, 1, 0, 2), (1, 2, 3, 2), (0, 0, 0, 5))
 
 
+def value_of(item: Item) -> float:
+    """Returns the value of the mean demand of the first 26 weeks of an item."""
+    return float(item.price or 0) * sum(item.counts[:26]) / 26
+
+
 def best_unmet(item: Item, price: float) -> float:
-    """Returns the share of demand that the best of all policies of an item leaves unmet, with a price of as many times its
-    mean demand."""
+    """Returns the share of demand that the best of all policies of an item leaves unmet, with a price of a unit of value."""
     own = Settings(fit="empirical", borrow=NONE, every="week")
     question = question_of(item.part(0, 26), own)
-    mean, best = float(question.demand.mean), (np.inf, 0.0)
+    value, best = value_of(item), (np.inf, 0.0)
     for s, S in itertools.product(range(1, 16), range(1, 28)):
         if S > s:
             figures = question.figures((s, S))
             unmet = 1 - figures.fill
-            best = min(best, (figures.cost + price * unmet, unmet))
+            best = min(best, (figures.cost + price * value * unmet, unmet))
     return best[1]
 
 
 def test_price_by_brute_force(tmp_path: Path) -> None:
-    """Items that weigh alike meet the share that they want in the mean by their records, and less with a price that is
-    2% lower: of all policies of each, tried one by one. Later weeks count for nothing.
+    """Items meet by value the share that they want in the mean by their records, and less with a price that is 2% lower:
+    of all policies of each, tried one by one. Later weeks count for nothing.
     """
     items = [small(place, SMALL[place % 3], 1 + place % 3) for place in range(12)]
     later = [
@@ -229,23 +211,24 @@ def test_price_by_brute_force(tmp_path: Path) -> None:
     prices = list[float]()
     for name, own in (("one", items), ("two", later)):
         sales, masters = tables_of(own)
-        masters["class"] = ""
+        masters["class"], masters["price"] = "", masters["holding"]
         with own_folder(tmp_path / name, CATALOGUE) as folder:
             take_tables(folder, sales, masters, None, None, Reading(every="week"), 1)
-            records = Records(folder.path / READ, 26, None)
+            records = Records(folder.path / READ, 26)
             with contextlib.closing(records), contextlib.closing(
                 Store(folder.store(TESTS), Backtest)
             ) as tests:
                 settings = Settings(fit="empirical", borrow=NONE, every="week")
                 on = Learning(folder, tests, records, settings, OWN, Means(1))
-                way = on.together(ITEMS)
+                way = on.together()
         assert isinstance(way, Way) and way.settings.prices
-        assert way.words == {"together": {REST: 0.9}, "weigh": "items"}
+        assert way.settings.together == {REST: 0.9}
         prices.append(way.settings.prices.groups[REST].price)
     assert prices[0] == prices[1]
     for times, is_met in ((1.0, True), (0.98, False)):
         unmet = [best_unmet(item, times * prices[0]) for item in items[:3]]
-        assert bool(np.mean(unmet) <= 0.1 + 1e-9) is is_met
+        share = np.average(unmet, weights=[*map(value_of, items[:3])])
+        assert bool(share <= 0.1 + 1e-9) is is_met
     run = planned_of(
         TOGETHER, Walked(items[1], settings, OWN, Walk(26, 2, 26), {TOGETHER: way})
     )
@@ -260,8 +243,8 @@ def test_price_by_brute_force(tmp_path: Path) -> None:
 
 
 def test_shares_by_hand(tmp_path: Path) -> None:
-    """Class a wants 90 and 95% alike, in the mean by units nearer to the item with more demand. Classes of fewer than 10
-    items are one, and items with a backlog cost, or without demand, are in none."""
+    """Class a wants 90 and 95%, in the mean by value nearer to what the items with more of it want. Classes of fewer than
+    10 items are one, and items with a backlog cost, or without a price, are in none."""
     facts: dict[str, Any] = {"backlog": None, "setup": Fraction(4)}
     items = list[Item]()
     for place in range(34):
@@ -272,155 +255,56 @@ def test_shares_by_hand(tmp_path: Path) -> None:
     items[33] = dataclasses.replace(items[33], backlog=Fraction(9))
     sales, masters = tables_of(items)
     masters["class"] = ["a"] * 20 + ["b"] * 6 + ["c"] * 8
-    with own_folder(tmp_path / "past", CATALOGUE) as folder:
-        take_tables(folder, sales, masters, None, None, Reading(every="week"), 1)
-        with contextlib.closing(Records(folder.path / READ, 26, None)) as records:
-            alike = wanted_shares(records, "items")
-            units = wanted_shares(records, "units")
-            assert wanted_shares(records, "value") == {}
-    rest = round((7 * 0.9 + 6 * 0.95) / 13, 4)
-    assert alike == {"": rest, "a": 0.925}
-    assert units["a"] == pytest.approx((0.9 + 3 * 0.95) / 4)
-
-
-def estimate(value: float, error: float) -> Estimate:
-    return Estimate(value, error, 2.0)
-
-
-def sums(group: str, spent: dict[str, float], items: int = 40) -> Sums:
-    """Returns sums with what methods spend beside the kept plan where both meet as much, with an error of 1%."""
-    nothing = estimate(0.0, 0.001)
-    facts: dict[str, Any] = dict.fromkeys(BY_METHOD, {})
-    facts["gained"] = dict.fromkeys(spent, nothing)
-    facts["stock"] = {code: estimate(more, 0.01) for code, more in spent.items()}
-    facts["equal"] = {
-        code: Equal(0.95, estimate(more, 0.01), estimate(more, 0.01))
-        for code, more in spent.items()
-    }
-    rows = dict.fromkeys(("dearer", "missed", "chance", "time"), nothing)
-    counts = {"broken": 0, "above": 0, "drift": None}
-    return Sums(group=group, items=items, promised=0.95, **rows, **counts, **facts)
-
-
-TESTED: dict[str, dict[str, Any]] = {
-    "kept": {},
-    "refitted": {"window": 26},
-    "corrected": {"correct": True},
-    "together": {"together": {"": 0.94, "a": 0.95, "b": 0.96}, "weigh": "items"},
-    "seasonal": {"season": "auto"},
-}
-PLAIN: dict[str, Any] = {"correct": False, "together": {}}
-CASES: dict[str, tuple[list[Sums], dict[str, Any], list[str]]] = {
-    "nothing gained": ([sums("", {"seasonal": 0.0})], PLAIN, []),
-    "season and correction": (
-        [sums("", {"corrected": -0.1, "seasonal": -0.2})],
-        {**PLAIN, "correct": True, "season": "auto"},
-        ["season beside"],
-    ),
-    "season before a window": (
-        [sums("", {"refitted": -0.1, "seasonal": -0.2})],
-        {**PLAIN, "season": "auto"},
-        [],
-    ),
-    "window before a season": (
-        [sums("", {"refitted": -0.3, "seasonal": -0.2})],
-        {**PLAIN, "window": 26, "season": "auto"},
-        ["season hidden"],
-    ),
-    "season lost": (
-        [sums("", {"refitted": -0.3, "seasonal": 0.2})],
-        {**PLAIN, "window": 26, "season": "none"},
-        ["season lost"],
-    ),
-    "one price for all": (
-        [sums("", {"together": -0.2, "seasonal": 0.0})],
-        {**PLAIN, **TESTED["together"]},
-        [],
-    ),
-    "one price but for a class": (
-        [
-            sums("", {"together": -0.2, "seasonal": 0.0}),
-            sums("a", {"together": 0.2}),
-            sums("b", {"together": 0.0}),
-        ],
-        {**PLAIN, "together": {"b": 0.96}, "weigh": "items"},
-        ["classes together"],
-    ),
-    "one price for a class": (
-        [
-            sums("", {"together": 0.0, "refitted": -0.1, "seasonal": 0.0}),
-            sums("a", {"together": -0.2, "refitted": -0.1}),
-            sums("b", {"together": -0.2}, 9),
-        ],
-        {**PLAIN, "window": 26, "together": {"a": 0.95}, "weigh": "items"},
-        ["classes together"],
-    ),
-    "not beside a correction": (
-        [sums("", {"corrected": -0.2, "seasonal": 0.0}), sums("a", {"together": -0.2})],
-        {**PLAIN, "correct": True},
-        [],
-    ),
-}
-
-
-@pytest.mark.parametrize("case", CASES)
-def test_words_of_what_was_found(case: str) -> None:
-    own, words, codes = CASES[case]
-    taken, remarks = words_as(own, TESTED)
-    assert (taken, [remark.code for remark in remarks[1:]]) == (words, codes)
-
-
-def test_words_without_a_test_of_seasons() -> None:
-    """Where no season was tested, none is spoken against; and what has no plan is named."""
-    known = {code: TESTED[code] for code in ("kept", "refitted")}
-    taken, remarks = words_as([sums("", {"smoothed": -0.2, "refitted": -0.1})], known)
-    assert taken == {**PLAIN, "window": 26}
-    assert remarks[0].facts == {"method": "refitted", "best": "smoothed"}
-    assert [remark.code for remark in remarks[1:]] == ["season untested on the past"]
-    taken, remarks = words_as([], TESTED)
-    assert taken == PLAIN and remarks[0].facts == {"method": "kept", "best": "kept"}
+    masters["price"] = [2, 2] * 10 + [3, 1] * 6 + [None, 1]
+    found = list[dict[str, float]]()
+    for number, table in enumerate((masters, masters.drop(columns="price"))):
+        with own_folder(tmp_path / str(number), CATALOGUE) as folder:
+            take_tables(folder, sales, table, None, None, Reading(every="week"), 1)
+            with contextlib.closing(Records(folder.path / READ, 26)) as records:
+                found.append(wanted_shares(records))
+    assert found == [{"": 0.925, "a": round((0.9 + 3 * 0.95) / 4, 4)}, {}]
 
 
 def test_ways_that_records_do_not_teach(tmp_path: Path) -> None:
     """It is said why no price is tested, and how long a record has to be for the seasons of the plan. With none wanted,
     and in a plan without any, nothing is."""
-    sales, masters = tables_of(
-        small(place, SMALL[1], 1) for place in range(10)  # without a price
-    )
-    masters["class"] = ""
+    sales, masters = tables_of(small(place, SMALL[1], 1) for place in range(21))
+    masters["class"] = "x"
     own = Settings(fit="empirical", borrow=NONE, every="week")
-    with own_folder(tmp_path / "past", CATALOGUE) as folder:
-        words = Reading(every="week")
-        take_tables(folder, sales, masters, None, None, words, 1)
-        with contextlib.closing(
-            Records(folder.path / READ, 26, None)
-        ) as records, contextlib.closing(Store(folder.store(TESTS), Backtest)) as tests:
+    words = Reading(every="week")
+    said = list[Way | Remark]()
+    for priced, changed in (
+        (9, {}),
+        (10, {}),
+        (21, {"s_min": 1_000_000, "order_min": 9}),
+    ):
+        masters["price"] = [1] * priced + [None] * (21 - priced)
+        with own_folder(tmp_path / str(priced), CATALOGUE) as folder:
+            take_tables(folder, sales, masters, None, None, words, 1)
+            with contextlib.closing(
+                Records(folder.path / READ, 26)
+            ) as records, contextlib.closing(
+                Store(folder.store(TESTS), Backtest)
+            ) as tests:
 
-            def learning(**words: Any) -> Learning:
-                on = dataclasses.replace(own, **words)
-                return Learning(folder, tests, records, on, OWN, Means(1))
+                def learning(**words: Any) -> Learning:
+                    on = dataclasses.replace(own, **words)
+                    return Learning(folder, tests, records, on, OWN, Means(1))
 
-            few = learning().together("value")
-            none = learning(s_min=1_000_000, order_min=9).together(ITEMS)
-            seasonal = dataclasses.replace(own, seasons=SEASONS)
-            short = learning().seasonal(seasonal)
-            assert learning().seasonal(own) is None
-            assert learning(season="none").seasonal(seasonal) is None
+                said.append(learning(**changed).together())
+                seasonal = dataclasses.replace(own, seasons=SEASONS)
+                short = learning().seasonal(seasonal)
+                assert learning().seasonal(own) is None
+                assert learning(season="none").seasonal(seasonal) is None
+    few, unpriced, none = said
     assert few == Remark("few together", {"least": 10})
     assert isinstance(none, Remark) and none.code == "not together"
     assert "none of its items can be planned" in sentence(none)
+    assert isinstance(unpriced, Remark)
+    why = "11 of 21 items that are to be planned together have no price, by which they"
+    assert why in sentence(unpriced)
     assert short == Remark("seasons untested", {"record": 26, "least": 104})
     assert "record=104" in worded(sentence(short))
-
-
-def test_what_has_lost() -> None:
-    """A method has lost if it spends more where both meet as much, or meets less where they never do: beyond the error."""
-    one = sums("", {"refitted": 0.1, "smoothed": 0.01, "today": 0.0, "together": 0.0})
-    apart = {"today": estimate(-0.1, 0.01), "together": estimate(0.1, 0.01)}
-    equal = {code: one.equal[code] for code in ("refitted", "smoothed")}
-    one = dataclasses.replace(one, equal=equal, gained={**one.gained, **apart})
-    lost = [method for method in one.gained if one.has_lost(method)]
-    assert lost == ["refitted", "today"] and not one.has_lost("seasonal")
 
 
 def test_methods_of_a_plan() -> None:

@@ -197,6 +197,22 @@ def test_plans_of_others(earlier: Path, tmp_path: Path, program: Path) -> None:
             plan(after=tmp_path / "copy", program=program)
 
 
+def test_settings_that_there_are_no_longer(earlier: Path, program: Path) -> None:
+    """A plan that had them as plans are made now is as before; one that was made otherwise is refused by name."""
+    sound = plan(after=earlier, program=program)
+    fact = (
+        "UPDATE facts SET value = replace(value, '{0}', '{1}') WHERE name = 'planned'"
+    )
+    had = '"season": "auto"', '"season": "auto", "window": null, "weigh": "value"'
+    by_sql(ANSWERS, fact.format(*had))(earlier)
+    after = plan(after=earlier, program=program)
+    pd.testing.assert_frame_equal(after.changes, sound.changes)
+    by_sql(ANSWERS, fact.format('"window": null', '"window": 26'))(earlier)
+    said = "answers.sqlite: it was planned by window, which there is no longer; run"
+    with pytest.raises(Refused, match=said):
+        plan(after=earlier, program=program)
+
+
 def test_a_folder_of_an_older_version(tmp_path: Path, program: Path) -> None:
     """A folder with the files of a version that kept them beside the tables is to be planned anew."""
     (tmp_path / "answers.sqlite").touch()

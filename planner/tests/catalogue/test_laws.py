@@ -22,7 +22,7 @@ from crnplan.plan import learned
 from crnplan.plan.catalogue import take_prior
 from crnplan.plan.learned import (
     PRIOR,
-    PRIOR_WINDOW,
+    PRIOR_SEASONS,
     drawn_of_groups,
     learned_of,
     learners,
@@ -291,7 +291,7 @@ def test_an_earlier_plan_has_taught(
 ) -> None:
     """A plan after an earlier one has what more items learned there, unless it is to be learned again."""
     with contextlib.closing(Store(tmp_path / "earlier", Answer)) as earlier:
-        earlier.keep_facts({PRIOR: prior.text, PRIOR_WINDOW: str(read.window)})
+        earlier.keep_facts({PRIOR: prior.text, PRIOR_SEASONS: "null"})
         take_prior(answers, Mock(store=earlier), again)
     found = learned_of(answers, read, Settings(borrow=CLASS), again)
     assert (found.remarks[0].facts["items"], found.is_kept) == (

@@ -13,7 +13,7 @@ import pytest
 
 import crnplan as crn
 from crnplan.plan.catalogue import planned_folder
-from crnplan.plan.learned import PRIOR_WINDOW, SEASONS
+from crnplan.plan.learned import PRIOR_SEASONS, SEASONS
 from crnplan.show.verdicts import VERDICTS
 from planner.tests.conftest import Command
 from planner.tests.plan.items import SHORT
@@ -122,7 +122,7 @@ def test_what_is_kept(room: Path, tmp_path: Path, program: Path) -> None:
     with planned_folder(folder) as planned:
         seasons = planned.settings.seasons
         text = planned.store.fact(SEASONS)
-        assert text and planned.store.fact(PRIOR_WINDOW) is None
+        assert text and planned.store.fact(PRIOR_SEASONS) is None
     assert seasons and [*seasons.classes] == ["warm"]
     demand = pd.read_csv(room / "demand.csv")
     sales = tmp_path / "demand.csv"

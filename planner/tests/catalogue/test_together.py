@@ -60,13 +60,11 @@ def together(program: Path) -> crn.Plan:
     return planned(program, together=WANTED)
 
 
-def met(plan: crn.Plan, weigh: str = "value", group: str = "") -> float:
+def met(plan: crn.Plan, group: str = "") -> float:
     """Returns the share of demand that the items of a class with a wanted share meet together, by their decisions."""
     rows = whole_frame(plan)[lambda row: row.fill_together.notna()]
     rows = rows[rows["class"].isin([group] if group else [*"ab"])]
-    weights = rows.demand
-    if weigh == "value":
-        weights = rows.demand * rows.value_chosen / rows.stock_chosen
+    weights = rows.demand * rows.value_chosen / rows.stock_chosen
     return float(np.average(rows.fill_chosen, weights=weights))
 
 
@@ -131,14 +129,6 @@ def test_classes(program: Path, alone: pd.DataFrame) -> None:
     pd.testing.assert_frame_equal(one[~others], own[~others])
 
 
-def test_weighed_by_units(program: Path, together: crn.Plan) -> None:
-    """Prices of items do not count then, whether there are any or not."""
-    units = planned(program, 9, together=WANTED, weigh="units")
-    assert WANTED <= met(units, "units") < WANTED + 0.01
-    assert abs(met(together, "units") - WANTED) > 0.01
-    assert len(units.details.fill_together.dropna()) == COUNT - BACKLOG
-
-
 def test_floor(program: Path, together: crn.Plan) -> None:
     """No item meets less, those that would have the cheapest policy with it, and others need meet less for that."""
     least = 0.88
@@ -168,6 +158,21 @@ def test_items_without_a_price(program: Path, alone: pd.DataFrame) -> None:
     pd.testing.assert_frame_equal(own.loc[left, same], alone.loc[left, same])
     assert (own.loc[left].codes.str.contains("planned by itself")).all()
     assert "3 have no price and are planned by their own fill rates" in plan.text
+
+
+def test_items_with_another_goal(program: Path, alone: pd.DataFrame) -> None:
+    """Items for which few periods are to end with a shortage, or with a backlog cost, are not planned together."""
+    sales, masters = made()
+    masters["no_shortage"] = [0.9] * 3 + [None] * (COUNT - 3)
+    masters.loc[:2, "fill"] = None
+    words = {**SETTINGS, "together": {"a": WANTED}, "program": program}
+    plan = crn.plan(sales, masters, **words)
+    own = whole_frame(plan).set_index("item")
+    together = own.index[own.fill_together.notna()]
+    expected = masters[masters["class"] == "a"]["item"][2:]
+    assert [*together] == [*expected]
+    others = crn.plan(sales, masters[3:], **words)
+    assert groups_of(plan)["a"] == groups_of(others)["a"]
 
 
 @pytest.mark.parametrize("name", REFUSED)

@@ -38,7 +38,7 @@ SETTINGS: dict[str, Any] = {
 FILES = "demand.csv", "items.csv", "orders.csv", "--anyway"
 # What names inputs and outputs, or how the work is done: it is no word of reading or planning.
 OTHERS = {
-    *("tables", "stated", "config", "after", "as_backtest"),
+    *("tables", "stated", "config", "after"),
     *("out", "only_read", "rejects"),
     *("anyway", "again", "jobs", "cluster", "program"),
 }

@@ -76,7 +76,7 @@ BROKEN: list[object] = [
     KEYS | {"moves": {"x": "/x"}},
     KEYS | {"begun": {"kind": "plan", "out": "../x"}},
     KEYS | {"begun": {"kind": "plan", "after": "/x"}},
-    KEYS | {"begun": {"kind": "plan", "test": "plans/../../x"}},
+    KEYS | {"begun": {"kind": "plan", "x": ""}},
 ]
 
 
@@ -86,6 +86,18 @@ def test_whole_state_is_taken(tmp_path: Path) -> None:
     (tmp_path / "desk" / STATE).write_text(json.dumps(KEYS | {"next_file": 7}), "utf-8")
     with opened(tmp_path / "desk") as front:
         assert front.desk.state.next_file == 7
+
+
+@pytest.mark.parametrize("test", ["", "tests/last"])
+def test_state_of_an_earlier_version_is_taken(tmp_path: Path, test: str) -> None:
+    """Work that was begun goes on, but for a plan as a test on the past found best, which is made no longer."""
+    with opened(tmp_path / "desk"):
+        pass
+    begun = {"kind": "plan", "out": "plans/x", "after": "", "test": test, "changed": 0}
+    text = json.dumps(KEYS | {"begun": begun, "ended": "stopped"})
+    (tmp_path / "desk" / STATE).write_text(text, "utf-8")
+    with opened(tmp_path / "desk") as front:
+        assert (front.desk.state.begun is None) == bool(test)
 
 
 @pytest.mark.parametrize("text", ["", "{", "\0", *map(json.dumps, BROKEN)])
@@ -188,8 +200,3 @@ def test_values_are_refused_in_words(full: Planner) -> None:
                 faults.append((method, path, fields, answer.status_code))
     assert faults == []
     assert full.get(f"/{PAGES[0]}").status_code == 200
-
-
-def test_test_of_a_plan_is_a_known_one(planner: Planner) -> None:
-    answer = planner.post("/plan/begin", {"test": "../../elsewhere"})
-    assert answer.status_code == 400 and "no such test" in answer.text

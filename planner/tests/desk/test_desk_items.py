@@ -303,8 +303,8 @@ def test_item_that_left_the_plan_can_be_ended(planner: Planner, tmp_path: Path) 
     assert planner.post("/item/override", sent).status_code == 303
 
 
-def test_past_is_tested_and_planned_by(buyer: Planner, tmp_path: Path) -> None:
-    """The page says what the summary of the test says, and a plan is begun by that."""
+def test_past_is_tested(buyer: Planner, tmp_path: Path) -> None:
+    """The page says what the summary of the test says."""
     assert "Begin the test" in buyer.get("/past").text
     assert buyer.get("/past/backtest.html").status_code == 404
     assert buyer.post("/past/begin", {}).status_code == 303
@@ -322,11 +322,6 @@ def test_past_is_tested_and_planned_by(buyer: Planner, tmp_path: Path) -> None:
     answer = buyer.get("/past/backtest.html")
     assert answer.text == tests.page
     assert answer.headers["Content-Security-Policy"] == WHOLE_PAGE
-    plans = len(buyer.desk.state.plans)
-    plan(buyer, way="alone", test=LAST_TEST)
-    assert len(buyer.desk.state.plans) == plans + 1
-    begun = buyer.desk.state.begun
-    assert begun and begun.test == LAST_TEST and begun.out.startswith(PLANS)
 
 
 @pytest.mark.parametrize(

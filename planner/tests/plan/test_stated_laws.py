@@ -22,7 +22,6 @@ from crnplan.plan.correction import tried_names
 from crnplan.plan.item import Depth
 from crnplan.plan.offers import Asked, Offer, offer_of, past_of
 from crnplan.plan.one import or_fault, plan_one
-from crnplan.plan.prices import ITEMS, weight_of
 from crnplan.plan.question import question_of
 from crnplan.plan.seasons import Seasons
 from crnplan.read.item import STATED, Item
@@ -69,11 +68,6 @@ def test_what_was_seen_does_not_count(program: Path) -> None:
     assert (law.table, law.box) == (LAW, 1)
     assert law.diagnostics.seen == crn.Law((0, 50, 60, 70), (5, 5, 5, 5))
     assert not [*fit_words(law)]
-
-
-def test_items_alike_weigh_by_their_law() -> None:
-    """Of an item without a history a unit weighs one over the mean of its law."""
-    assert weight_of(stated(), ITEMS) == pytest.approx(8 / 15)
 
 
 def test_large_demands_are_counted_in_boxes(program: Path) -> None:

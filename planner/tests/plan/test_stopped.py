@@ -167,7 +167,7 @@ def read(
         stopped=stopped,
     )
     with catalogue.opened() as base:
-        return {item.name: item for item in base.whole_items()}
+        return {item.name: item for item in base.items()}
 
 
 def test_status_of_items() -> None:

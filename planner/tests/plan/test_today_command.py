@@ -17,13 +17,12 @@ import pytest
 import crnplan as crn
 from crnplan.store.files import MARKER
 from crnplan.plan.answer import IDLE, Answer
-from crnplan.plan.catalogue import ANSWERS, PLANNED, planned_folder
+from crnplan.plan.catalogue import ANSWERS, planned_folder
 from crnplan.read.catalogue_reading import READ
 from crnplan.read.item import NO_DEMAND
 from crnplan.read.items import Reading
 from crnplan.remarks import Remark
 from crnplan.show.today_tables import OrderDays, orders_today
-from crnplan.store.stored import Store
 from planner.tests.conftest import Command
 from planner.tests.planned_tables import whole_frame
 from planner.tests.show.made_catalogue import made_folder, made_pair
@@ -189,15 +188,12 @@ def made_plan(folder: Path, stock: int, answer: Answer | Remark) -> crn.Plan:
         past=NO_DEMAND if isinstance(answer, Remark) and answer.code == IDLE else "",
     )
     made_folder(folder, 12, has_curve=False, change=(quiet, answer))
-    with contextlib.closing(Store(folder / ANSWERS, Answer)) as store:
-        planned = store.fact(PLANNED) or ""
-        store.keep_facts({PLANNED: planned.replace('"window": null', '"window": 5')})
     return crn.open_plan(folder)
 
 
 @pytest.mark.parametrize("code", [IDLE, "no demand"])
 def test_dead_stock(tmp_path: Path, code: str) -> None:
-    """What nobody has asked for during a year lies dead, also if it has no plan, or if fewer periods count for its plan."""
+    """What nobody has asked for during a year lies dead, also if it has no plan."""
     plan = made_plan(tmp_path / "plan", 6, Remark(code, {"periods": 54}))
     today = plan.orders_today(date="2026-11-27")
     own = today.frame[today.frame.item == "Q-1"]

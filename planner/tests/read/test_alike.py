@@ -29,7 +29,7 @@ def of_catalogue(given: dict[str, Any], words: dict[str, Any]) -> Any:
     tables = given["demand"], given["items"], given["orders"]
     catalogue = read_catalogue(*tables, today=TODAY, least=1, far="keep", **words)
     with catalogue.opened() as read:
-        items, rejects = [*read.whole_items()], []
+        items, rejects = [*read.items()], []
         for reject in read.rejects():
             place = reject.kind, reject.line, reject.item, reject.column
             if reject.kind != "suspicious":

@@ -106,11 +106,10 @@ def test_months_and_days() -> None:
 
 
 def test_parts_of_an_item_keep_their_marks() -> None:
-    """By places of the part: of a window, without some periods, and of the known ones; a successor has both items'."""
+    """By places of the part: of some periods, without some, and of the known ones; a successor has both items'."""
     item = item_of(3, promoted=(2, 5, 9), unknown=(4, 5), returns=())
     assert len(item.counts) >= 12
     assert item.part(3, 10).promoted == (2, 6)
-    assert item.last(len(item.counts) - 5).promoted == (0, 4)
     assert item.without([0, 2, 3]).promoted == (2, 6)
     assert item.known.promoted == (2, 7)
     earlier = {"first": item.first - 2, "counts": (1, 1, *item.counts)}

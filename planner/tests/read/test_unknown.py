@@ -95,15 +95,14 @@ def test_rows_of_a_day_that_is_not_read() -> None:
 
 
 def test_items_teach_by_known_periods_alone() -> None:
-    """An item of whose last weeks none is known teaches nothing by a window of these, and all its known ones without it."""
-    demand = demand_of("A", "B").astype({"quantity": float})
+    """An item of whose last weeks none is known teaches by its known ones; one of which no week is known teaches nothing."""
+    demand = demand_of("A", "B", "C").astype({"quantity": float})
     demand.loc[21:25, "quantity"] = np.nan
-    read = crn.read_catalogue(demand, masters_of(MASTER, MASTER), today=TODAY)
-    names = list[list[str]]()
-    for window in (5, None):
-        taught = learners(Catalogued(read.path, window), False)
-        names.append([item.name for item in taught])
-    assert names == [["B"], ["A", "B"]]
+    demand.loc[demand["item"] == "C", "quantity"] = np.nan
+    masters = masters_of(MASTER, MASTER, MASTER)
+    read = crn.read_catalogue(demand, masters, today=TODAY, least=1)
+    taught = learners(Catalogued(read.path), False)
+    assert [item.name for item in taught] == ["A", "B"]
 
 
 def test_what_an_empty_cell_means_may_be_stated() -> None:
@@ -176,13 +175,12 @@ def test_numbers_that_are_missing(missing: Any) -> None:
 
 @pytest.mark.parametrize("field", ["counts", "returns", "unknown", "first"])
 def test_parts_of_an_item(field: str) -> None:
-    """Unknown periods keep their place in a part of an item, without some periods, and behind a window."""
+    """Unknown periods keep their place in a part of an item, and without some periods."""
     item = Item("A", (1, 9, 2, 9, 3), (2,), None, 1, 1, returns=(1, 0, 0, 1, 0))
     item = dataclasses.replace(item, unknown=(1, 3), first=10)
     expected: dict[str, Any] = CASES["parts"][field]
     assert list_of(item.part(1, 4), field) == expected["part"]
     assert list_of(item.without([0, 1]), field) == expected["without"]
-    assert list_of(item.last(2), field) == expected["last"]
     assert list_of(item.known, field) == expected["known"]
 
 

@@ -39,7 +39,7 @@ STREAMS = "stdin", "stdout", "stderr"  # in the order of their numbers
 COMMANDS: dict[str, dict[str, Any]] = tomllib.loads(
     Path(__file__).with_name("help.toml").read_text("utf-8")
 )
-RETIRED: dict[str, str] = tomllib.loads(
+RETIRED: dict[str, dict[str, str]] = tomllib.loads(
     Path(__file__).with_name("retired.toml").read_text("utf-8")
 )
 
@@ -119,8 +119,8 @@ class CommandGroup(click.Group):
         elif name not in COMMANDS and not name.startswith("-"):
             close = difflib.get_close_matches(name, COMMANDS, 2)
             advice = f"; they are {', '.join(COMMANDS)}"
-            if name in RETIRED:
-                advice = f" any more; {RETIRED[name]}."
+            if name in RETIRED["commands"]:
+                advice = f" any more; {RETIRED['commands'][name]}."
             elif close:
                 advice = f"; did you mean {' or '.join(close)}?"
             raise click.UsageError(f"there is no command '{name}'{advice}", ctx)
@@ -221,7 +221,7 @@ def retired_option(command: str, flag: str) -> str:
     options = COMMANDS.get(command, {}).get("options", ())
     kind = flag.strip("-").replace("-", "_")
     keys = {word.flag: word for word in known_words().values() if word.key}
-    said = RETIRED.get(f"{command} {flag}")
+    said = RETIRED["options"].get(f"{command} {flag}")
     if said:
         return f"{flag} is no option any more: {said}"
     if "tables" in options and kind in OF_PLANS:

@@ -26,7 +26,7 @@ def backtest(
     out: Path | None,
     record: int,
     every: int,
-    window: int | None,
+    window: int,
     least_gain: float | None,
     stated: Sequence[str],
     config: str | None,
@@ -44,7 +44,7 @@ def backtest(
     else:
         with planned_folder(Path(tables[0])) as planned:
             settings = planned.settings
-    walk = Walk.of(settings, record, every, window, least_gain)
+    walk = Walk(record, every, window, least_gain or settings.least_gain)
     with own_folder(out or Path(tables[0]), CATALOGUE) as folder:
         if files is not None:
             read_into(folder, files, words, jobs)

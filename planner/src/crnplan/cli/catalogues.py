@@ -9,7 +9,7 @@ from typing import Any
 import click
 
 import crnplan as crn
-from ..catalogues import Catalogue, Lost, plan_catalogue, settings_of, write_found
+from ..catalogues import Catalogue, Lost, plan_catalogue, write_found
 from ..store.files import Folder, named_text, own_folder
 from ..store.means import Means
 from ..show.catalogue_page import CATALOGUE_FILES, write_scenario
@@ -21,7 +21,6 @@ from ..show.catalogue_tables import (
     reasons_of,
     rejects_of,
 )
-from ..plan.backtest.catalogue import check_test
 from ..plan.catalogue import check_earlier
 from ..plan.how import Settings
 from ..plan.settings import CONFIG, read_config
@@ -57,13 +56,11 @@ def plan(tables: Sequence[str], **asked: Any) -> int:
             "--out is missing; name the folder for the plan, or say --check to only read the files"
         )
     check_earlier(asked["after"], asked["out"], settings)
-    if asked["as_backtest"] is not None:
-        check_test(asked["as_backtest"], asked["out"])
     files = files_said(tables, words)
     with tempfile.TemporaryDirectory(prefix="crnplan-") as room:
         out = Path(room) if asked["only_read"] else asked["out"]
         with own_folder(out, CATALOGUE, CATALOGUE_FILES) as folder:
-            read, settings = read_files(folder, files, words, settings, asked)
+            read = read_files(folder, files, words, settings, asked)
             if asked["only_read"]:
                 missing = only_read(read, asked["rejects"])
             else:
@@ -93,19 +90,18 @@ def read_files(
     words: Reading,
     settings: Settings,
     asked: Mapping[str, Any],
-) -> tuple[Catalogue, Settings]:
+) -> Catalogue:
     """Reads the files of a catalogue into a folder, and says what is to be said of them: also what was found in them, if
-    their columns are guessed. Returns it with the settings by which it is planned."""
+    their columns are guessed."""
     tables = {kind: files[kind] for kind in PLANNED}
     read = Catalogue(read_into(folder, tables, words, asked["jobs"]))
     set_overrides(folder, files[OVERRIDES], words, asked["after"])
-    settings, said = settings_of(folder, settings, asked["as_backtest"])
     found = write_found(folder, read, settings)
     if words.columns.keys().isdisjoint(NEEDED):
         click.echo(found, err=True)
-    for line in (*read.said, *said):
+    for line in read.said:
         click.echo(f"# {line}", err=True)
-    return read, settings
+    return read
 
 
 def only_read(read: Catalogue, rejects: Path | None) -> list[str]:

@@ -7,6 +7,7 @@ from typing import Any
 
 from ..errors import Refused
 from ..plan.how import Settings
+from ..plan.settings import RETIRED
 from ..read.columns import ROLES
 from ..read.configuration import COLUMNS, made_from, merged, stated
 from ..read.items import Reading
@@ -52,7 +53,8 @@ def entry_of(text: str, known: Mapping[str, Word]) -> tuple[str, str]:
     names.pop(COLUMNS)  # Its keys are those of tables.
     if key not in names:
         said = f"{argument('stated', text)}: {shown(key)} is no key of crnplan.toml"
-        raise Refused(said, near(key, [*names, *ROLES], ALL_KEYS))
+        advice = RETIRED.get(key) or near(key, [*names, *ROLES], ALL_KEYS)
+        raise Refused(said, advice)
     return names[key], f"{entry}={value}" if entry else value
 
 

@@ -77,7 +77,6 @@ class Front:
             "overrides": desk.overrides_table(),
             "out": str(desk.path / begun.out),
             "after": str(desk.path / begun.after) if begun.after else "",
-            "test": str(desk.path / begun.test) if begun.test else "",
             "program": self.program,
         }
 

@@ -22,7 +22,6 @@ def past() -> str:
     return page(
         "past.html",
         text=summary.read_text("utf-8") if summary.is_file() else "",
-        test=LAST_TEST,
         is_last=begun is not None and begun.kind == TESTING,
         command=command_on(desk, "backtest", TESTED, out=desk.path / LAST_TEST),
     )

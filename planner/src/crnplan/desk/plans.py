@@ -12,7 +12,7 @@ from ..plan.catalogue import planned_folder
 from ..read.file_kinds import NEEDED, PLANNED
 from ..show.change_tables import change_lines
 from .front import PAGES, command_of, front, page, words
-from .kept import LAST_TEST, OVERRIDES, PLANS, Begun, Desk
+from .kept import OVERRIDES, PLANS, Begun, Desk
 from .work import PLANNING, STOPPED, DeskWork
 
 pages = Blueprint("plans", __name__)
@@ -82,10 +82,8 @@ def plan() -> str:
 
 @pages.post("/plan/begin")
 def begin() -> Redirect:
-    own, test = front(), request.form.get("test", "")
+    own = front()
     state = own.desk.state
-    if test not in ("", LAST_TEST):
-        raise Refused("there is no such test", "begin one on the page Past")
     last = f"{PLANS}/{state.plans[-1]}" if state.plans else ""
     match request.form.get("way"):
         case "again" if last:
@@ -94,7 +92,7 @@ def begin() -> Redirect:
             begun = Begun(PLANNING, f"{PLANS}/{own.new_name()}", after=last)
         case _:
             begun = Begun(PLANNING, f"{PLANS}/{own.new_name()}")
-    own.begin(replace(begun, changed=state.changed, test=test))
+    own.begin(replace(begun, changed=state.changed))
     return redirect("/plan", 303)
 
 

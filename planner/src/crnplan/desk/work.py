@@ -146,7 +146,6 @@ def plan(asked: dict[str, Any], reading: crn.Reading, settings: crn.Settings) ->
         overrides=asked["overrides"],
         out=asked["out"],
         after=asked["after"] or None,
-        as_backtest=asked["test"] or None,
         program=asked["program"],
         progress=True,
     )

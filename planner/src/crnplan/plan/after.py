@@ -134,7 +134,7 @@ def pairs_of(earlier: PlannedFolder, now: PlannedFolder) -> Iterator[PlannedTwic
 
 def decided(plan: PlannedFolder, name: str) -> tuple[Item, Answer] | None:
     """Returns an item of a plan with its answer; None without a policy."""
-    item, answer = plan.read.whole_item(name), plan.store.answer(name)
+    item, answer = plan.read.item(name), plan.store.answer(name)
     return (item, answer) if item and isinstance(answer, Answer) else None
 
 

@@ -40,7 +40,7 @@ from .correction import AIMS, corrections_of
 from .learned import (
     PRIOR,
     FOLLOWING,
-    PRIOR_WINDOW,
+    PRIOR_SEASONS,
     SEASONS,
     Learned,
     following_of,
@@ -57,6 +57,8 @@ ANSWERS = f"{IN_KEPT}answers.sqlite"
 PLANNED, TOTALS = "planned", "totals"  # facts beside the answers
 AGAIN = "run crnplan plan again"
 OLDER = "answers.sqlite"  # what an older version has kept beside the tables
+# Settings that there are no longer, each with the value by which plans are as they are now.
+GONE = {"window": None, "weigh": "value"}
 Decided = tuple[Item, Answer | Remark]
 
 
@@ -102,16 +104,21 @@ class Planned:
             if tree["borrow"] != NONE:
                 prior = Prior.parse(answers.fact(PRIOR) or "", str(answers.named))
             stated = tree["settings"]
+            gone = [name for name in GONE if stated.pop(name, GONE[name]) != GONE[name]]
             for name, kind in LEARNED.items():
                 stated[name] = value_of(kind | None, stated.get(name))
             settings = Settings(**stated)
-            return cls(
+            planned = cls(
                 settings, prior, str(tree["common"]), str(tree.get("earlier", ""))
             )
-        except (ValueError, LookupError, TypeError) as fault:
+        except (AttributeError, ValueError, LookupError, TypeError) as fault:
             raise Damaged(
                 answers.named, f"what was planned is not as it was kept ({fault})"
             ) from fault
+        if gone:
+            what = f"{answers.named}: it was planned by {gone[0]}, which there is no longer"
+            raise Refused(what, AGAIN)
+        return planned
 
 
 class PlannedFolder:
@@ -174,11 +181,10 @@ class PlannedFolder:
                 if isinstance(change, Change):
                     yield change
 
-    def answers(self, is_whole: bool = False) -> Iterator[Decided]:
-        """Yields the items in order of their names, each with its answer, or with the fault for which it has none; with
-        the periods by which they were planned, or with all of the record."""
-        items = self.read.whole_items() if is_whole else self.read.items()
-        for item, (_, _, answer) in zip(items, self.store.answers(), strict=True):
+    def answers(self) -> Iterator[Decided]:
+        """Yields the items in order of their names, each with its answer, or with the fault for which it has none."""
+        answers = self.store.answers()
+        for item, (_, _, answer) in zip(self.read.items(), answers, strict=True):
             yield item, answer
 
     def item(self, name: str) -> tuple[Item, Answer]:
@@ -316,11 +322,7 @@ def planned_folder(
         planned = Planned.of(answers)
         if planned is None:
             raise no_plan(path)
-        with Catalogued(
-            path / READ,
-            planned.settings.window,
-            planned=planned.settings.planned_by,
-        ) as read:
+        with Catalogued(path / READ, planned=planned.settings.planned_by) as read:
             yield PlannedFolder(path, read, answers, planned)
 
 
@@ -328,7 +330,7 @@ def take_prior(answers: Store[Answer], earlier: PlannedFolder, again: bool) -> N
     """Keeps what the items of an earlier plan have learned, and where they aim, unless it is to be learned again."""
     if again:
         return
-    for name in (PRIOR, PRIOR_WINDOW, SEASONS, FOLLOWING, AIMS, PRICES):
+    for name in (PRIOR, PRIOR_SEASONS, SEASONS, FOLLOWING, AIMS, PRICES):
         fact = earlier.store.fact(name)
         if fact is not None:
             answers.keep_facts({name: fact})
@@ -345,14 +347,6 @@ class PlanningRun:
     work: Work[Answer]
     learned: Learned
     earlier: PlannedFolder | None
-
-    @property
-    def remarks(self) -> tuple[Remark, ...]:
-        """Returns what is to be said of the laws of all items."""
-        window = self.planned.settings.window
-        if window is None:
-            return self.learned.remarks
-        return *self.learned.remarks, Remark("window", {"periods": window})
 
     def keep_changes(self, folder: Folder) -> None:
         """Keeps what has changed since the earlier plan, once all answers have come."""
@@ -408,9 +402,7 @@ def planning(
     with (
         faults_of(folder.path),
         earlier_folder(after, folder) as earlier,
-        Catalogued(
-            folder.path / READ, settings.window, planned=settings.planned_by
-        ) as read,
+        Catalogued(folder.path / READ, planned=settings.planned_by) as read,
         Store(folder.store(ANSWERS), Answer) as answers,
     ):
         if earlier:

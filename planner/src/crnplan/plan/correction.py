@@ -201,7 +201,6 @@ def ways_of(settings: Settings) -> Settings:
         fit=settings.fit,
         borrow=settings.borrow,
         every=settings.every,
-        window=settings.window,
         seasons=settings.seasons,
     )
 

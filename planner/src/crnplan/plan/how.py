@@ -33,7 +33,7 @@ from ..vocabulary import (
 from .aims import Aims, Overruns
 from .bounds import MOST_COVERAGE
 from .following import Following
-from .prices import REST, VALUE, WEIGHTS, Prices, weight_of
+from .prices import REST, Prices, weight_of
 from .seasons import Seasons
 
 SEED_BITS = 32  # of the number that follows from the seed for each item and purpose
@@ -119,10 +119,6 @@ class Settings(Vocabulary):
         "Plan items at the level of their last periods, as far as the past of their class says that what comes follows it "
         "(auto), or at that of their record (none).",
     )
-    window: int | None = word(
-        numbers(1, MOST_WEIGHT),
-        help="Fit laws to the last N periods alone, and learn from these; by default to all.",
-    )
     least_gain: float | None = word(
         PART,
         help="After an earlier plan, keep levels if a change gains less than this share of their cost, as 2%.",
@@ -150,13 +146,8 @@ class Settings(Vocabulary):
             parts_of, "share, dict, or texts as 'A=98%'", "SHARE | CLASS=SHARE", PAIRS
         ),
         {},
-        "The share of demand that items without a backlog cost or `no_shortage` meet at once all together, as 95%, or those "
+        "The share of demand by value that items without a backlog cost or `no_shortage` meet at once all together, as 95%, or those "
         "of a class, as A=98%: by one price for what is not met, in place of a fill rate of each.",
-    )
-    weigh: str = word(
-        choice(*WEIGHTS),
-        VALUE,
-        "With `together`, by what demand is weighed: its value, its units, or as items that are alike.",
     )
     at_least: float | None = word(
         PART, help="With `together`, what each item meets at least, as 85%."
@@ -179,10 +170,9 @@ class Settings(Vocabulary):
     def _check_together(self) -> None:
         """Raises Refused for words on what is wanted together that can't be meant."""
         least = self.at_least
-        if not self.together and (least is not None or self.weigh != VALUE):
-            word = "weigh" if least is None else "at_least"
+        if not self.together and least is not None:
             raise Refused(
-                f"{argument(word)} is of items that are planned together",
+                f"{argument('at_least')} is of items that are planned together",
                 f"say what share these meet by {argument('together')}",
             )
         if self.together and self.confidence is not None:
@@ -206,7 +196,7 @@ class Settings(Vocabulary):
         return WEIGHED if self.together else PLANNED
 
     def named_group(self, item: Item) -> str | None:
-        """Returns the group for which a share is wanted that would have an item, whether it has a weight or not: the one
+        """Returns the group for which a share is wanted that would have an item, whether it has a price or not: the one
         of its class, or that of the rest; None if there is none.
 
         :meta private:
@@ -221,14 +211,7 @@ class Settings(Vocabulary):
 
         :meta private:
         """
-        return self.named_group(item) if self.weight_of(item) else None
-
-    def weight_of(self, item: Item) -> float:
-        """Returns what a unit of an item weighs; 0 if that is not known.
-
-        :meta private:
-        """
-        return weight_of(item, self.weigh)
+        return self.named_group(item) if weight_of(item) else None
 
     def common(self, program: str, prior: Prior) -> str:
         """Returns what all answers depend on, with the digest of the program and what was learned, as a text. The least

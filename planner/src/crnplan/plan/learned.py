@@ -24,8 +24,8 @@ from .following import Following
 from .how import ALL, CLASS, NONE, Settings, without_season
 from .seasons import Seasons, whole_years
 
-# Facts beside answers: what was learned, and by which window and without which seasons laws were.
-PRIOR, PRIOR_WINDOW, SEASONS = "prior", "window of prior", "seasons"
+# Facts beside answers: what was learned, and without which seasons laws were.
+PRIOR, PRIOR_SEASONS, SEASONS = "prior", "seasons of prior", "seasons"
 FOLLOWING = "following"
 # Items whose histories are looked at for the law of a whole catalogue (it is estimated on 3,000 of them), and for those
 # of all classes together, unless these are so many that few items of each are left.
@@ -91,8 +91,8 @@ def learned_of(
     """Returns what the items of a catalogue learn from one another.
 
     With `settings.borrow` None an item learns from all if there are 100 items. What was learned before in this way is
-    used again as it is, also if items change, unless it is to be learned `again` or by another window: otherwise each
-    new row would change the plan of every item. Raises Refused if fewer than 30 items are to learn.
+    used again as it is, also if items change, unless it is to be learned `again`: otherwise each new row would change the
+    plan of every item. Raises Refused if fewer than 30 items are to learn.
     """
     if settings.fit != "auto":
         return own_laws(f"fit = {settings.fit}")
@@ -106,7 +106,7 @@ def learned_of(
     way = CLASS if CLASS in asked else ALL
     least = LEAST_ON_REQUEST if asked else LEAST_ITEMS
     try:
-        earlier = None if again else kept_prior(answers, read, settings, way, least)
+        earlier = None if again else kept_prior(answers, settings, way, least)
         prior = earlier or learned_now(answers, read, settings, way, least)
     except Refused as few:
         if asked:
@@ -145,8 +145,8 @@ def seasons_of(
     answers: Store[Any], read: Catalogued, settings: Settings, again: bool
 ) -> Seasons | None:
     """Returns the seasons of the classes of a catalogue; None if none are to be planned. What was learned before is used
-    again as it is, also if items change, unless it is to be learned `again`, by another window, of another number of whole
-    years, or first with marks of promotions or without.
+    again as it is, also if items change, unless it is to be learned `again`, of another number of whole years, or first
+    with marks of promotions or without.
     """
     if settings.season != AUTO:
         return None
@@ -157,7 +157,7 @@ def seasons_of(
         items = learners(read, True) if years >= YEARS else ()
         return Seasons.of(every, items, is_marked)
 
-    basis = [every, read.window, years, is_marked]
+    basis = [every, years, is_marked]
     return learned_once(answers, SEASONS, Seasons, basis, again, learned)
 
 
@@ -174,7 +174,7 @@ def following_of(
         items = learners(read, True)
         return Following.of(without_season(item, settings)[0] for item in items)
 
-    basis = [basis_of(read, settings)]
+    basis = basis_of(settings)
     return learned_once(answers, FOLLOWING, Following, basis, again, learned)
 
 
@@ -198,21 +198,19 @@ def learned_once(
     return thing
 
 
-def basis_of(read: Catalogued, settings: Settings) -> str:
-    """Returns by which window and without which seasons items learn, as a text."""
+def basis_of(settings: Settings) -> str:
+    """Returns without which seasons items learn, as a text."""
     seasons = settings.seasons
-    if seasons is None:
-        return str(read.window)
-    return json.dumps([read.window, dataclasses.asdict(seasons)])
+    return json.dumps(seasons and dataclasses.asdict(seasons))
 
 
 def kept_prior(
-    answers: Store[Any], read: Catalogued, settings: Settings, way: str, least: int
+    answers: Store[Any], settings: Settings, way: str, least: int
 ) -> Prior | None:
-    """Returns what at least so many items have learned in this way, by this window and without these seasons in an
-    earlier run; None if that is not kept."""
+    """Returns what at least so many items have learned in this way and without these seasons in an earlier run; None if
+    that is not kept."""
     text = answers.fact(PRIOR)
-    if text is None or answers.fact(PRIOR_WINDOW) != basis_of(read, settings):
+    if text is None or answers.fact(PRIOR_SEASONS) != basis_of(settings):
         return None
     prior = Prior.parse(text, str(answers.named))
     return prior if prior.borrow == way and learners_of(prior) >= least else None
@@ -229,6 +227,5 @@ def learned_now(
         histories.append(np.array(item.known.counts, np.uint32))
         groups.append(item.group)
     prior = learn(histories, groups if way == CLASS else None, way, least=least)
-    basis = basis_of(read, settings)
-    answers.keep_facts({PRIOR: prior.text, PRIOR_WINDOW: basis})
+    answers.keep_facts({PRIOR: prior.text, PRIOR_SEASONS: basis_of(settings)})
     return prior

@@ -88,7 +88,7 @@ class ByPrice:
 
     def __init__(self, question: Question, prices: Sequence[float]) -> None:
         theory, least = question.theory, question.aim
-        weight = question.item.box * question.settings.weight_of(question.item)
+        weight = question.item.box * weight_of(question.item)
         gaps, figures = by_prices(
             question, theory, [weight * price for price in prices]
         )
@@ -127,7 +127,7 @@ def offer_of(
     question = question_of(item, settings, prior).flat
     own = asked[question.together or ""]
     policies = ByPrice(question, own.prices)
-    weight = item.box * settings.weight_of(question.item)
+    weight = item.box * weight_of(question.item)
     offer = Offer(
         weight * float(question.demand.mean), tuple((weight * policies.unmet).tolist())
     )
@@ -153,7 +153,7 @@ def past_of(
 
     item, on = flat_of(item, settings)
     unmet = in_blocks(item, on, prior, planned, pack=item.bounds.pack)
-    weight = settings.weight_of(item) / len(item.counts)
+    weight = weight_of(item) / len(item.counts)
     return Offer(weight * sum(item.counts), tuple((weight * unmet).tolist()))
 
 

@@ -59,6 +59,7 @@ from .bounds import COVERAGES
 from .checked_run import RunSample, checked_run
 from .choice import CLOSE, Choice, allowed_by, best_by_price, choice_of, levels_of
 from .how import Settings
+from .prices import weight_of
 from .question import Levels, NoPolicy, Question, Unplanned, question_of
 from .yearly import PlannedMonth, over_year, verdict_of
 
@@ -150,10 +151,9 @@ def share_of(question: Question) -> Share | None:
         theory = question.theory
         best = best_by_price(question, theory, price)
         is_least = theory.figures(*best.levels).fill < least
-    settings = question.settings
-    weight = settings.weight_of(question.item)
+    wanted, weight = question.settings.together[group], weight_of(question.item)
     price /= question.item.box
-    return Share(group, settings.together[group], weight, is_least, price)
+    return Share(group, wanted, weight, is_least, price)
 
 
 def remarks_of_cut(question: Question) -> Iterator[Remark]:
@@ -261,7 +261,7 @@ def plan_one(question: Question, program: str) -> Answer:
     """
     periods = len(question.item.known.counts)
     if not any(question.demand.values):
-        raise NoPolicy(Remark("no demand in window", {"periods": periods}))
+        raise NoPolicy(Remark("no demand without season", {"periods": periods}))
     if question.is_new and not question.learned:
         raise NoPolicy(Remark("new and unlike", {"periods": periods}))
     choice = choice_of(question, True)

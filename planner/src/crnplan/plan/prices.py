@@ -1,9 +1,8 @@
 """The prices of demand that is not met at once, by which items of a catalogue are planned together.
 
-All items of a group have one price: of a unit of value that is not met at once, of a unit of any item, or of the mean
-demand of an item in a period, by which all items weigh alike. With the best policy of
-each for that price, no others with the same service together cost less (Everett, Generalized Lagrange multiplier method,
-Operations Research 11, 1963).
+All items of a group have one price, of a unit of value that is not met at once. With the best policy of each for that
+price, no others with the same service together cost less (Everett, Generalized Lagrange multiplier method, Operations
+Research 11, 1963).
 """
 from __future__ import annotations
 
@@ -12,26 +11,17 @@ from dataclasses import dataclass
 
 from ..read.item import Item
 
-WEIGHTS = VALUE, UNITS, ITEMS = ("value", "units", "items")  # by what demand is weighed
 REST = ""  # the name of the group of all classes that are not named
 
 
-def weight_of(item: Item, weigh: str) -> float:
-    """Returns what a unit of an item weighs, by the periods or the law by which it is planned: 0 if it has no price, and
-    items weigh by value; or no demand, and they weigh alike."""
-    if weigh == UNITS:
-        return 1.0
-    if weigh == VALUE:
-        return float(item.price or 0)
-    if item.law:
-        return 1 / float(item.law.mean)
-    counts = item.known.counts
-    return len(counts) / sum(counts) if any(counts) else 0.0
+def weight_of(item: Item) -> float:
+    """Returns what a unit of an item weighs among others: its value, 0 if it has no price."""
+    return float(item.price or 0)
 
 
 @dataclass(frozen=True)
 class Price:
-    """The `price` of a group, in money: of a unit of weight that is not met at once. By theory its `items` then meet the share `promised` of their demand at once, at least the one that is `wanted`. With stock that costs as
+    """The `price` of a group, in money: of a unit of value that is not met at once. By theory its `items` then meet the share `promised` of their demand at once, at least the one that is `wanted`. With stock that costs as
     much to hold, items that all have one fill rate meet the share `alone`. If the price was found on the past, `tried`
     items met the share `past` of their demand with it."""
 

@@ -30,6 +30,7 @@ from .answer import Figures, Laws
 from .bounds import feasible_of
 from .following import AtLevel
 from .how import CLASS, NONE, Settings, without_season
+from .prices import weight_of
 from .seasons import InSeason, Stretch
 
 MOST_GAPS = 4_000  # of a lattice: with 150 times as many, a search takes half a minute
@@ -109,7 +110,7 @@ class Terms:
         group, prices = self.together, self.settings.prices
         if group is None or prices is None:
             return None
-        weight = self.settings.weight_of(self.item)
+        weight = weight_of(self.item)
         return prices.groups[group].price * weight * self.item.box
 
     def whole_cost(self, figures: Figures) -> float:

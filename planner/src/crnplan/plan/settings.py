@@ -12,11 +12,16 @@ from ..read.columns import ROLES
 from ..read.items import Reading
 from ..read.configuration import COLUMNS
 from ..toml.documents import Path as Place, TreeFault
-from ..toml.rules import RANGE, Check, TableCheck, no_faults, read_tables
+from ..toml.rules import RANGE, Check, TableCheck, no_faults, read_tables, unknown
 from ..vocabulary import RefusedEntries, Word, words_of
 from .how import Settings
 
 CONFIG = "crnplan.toml"
+# Keys that there are no longer, and what to say in place of each.
+RETIRED = {
+    "weigh": "items that are planned together weigh by value, so give them a price",
+    "window": "say follow=auto, or by from=DATE where the record begins",
+}
 
 
 def word_check(word: Word, place: str = "") -> Check:
@@ -39,6 +44,12 @@ def word_check(word: Word, place: str = "") -> Check:
     return check
 
 
+def no_key(path: Place, value: Any) -> list[TreeFault]:
+    """Returns the fault of a key that should not be there, with what to say in place of one that was there once."""
+    advice = RETIRED.get(str(path[-1]), "")
+    return [fault._replace(advice=advice) for fault in unknown(path, value)]
+
+
 def catalogue_rules() -> TableCheck:
     """Returns the rules of the settings of a catalogue. Other tables of the file are not ours."""
     keys = dict[str, Check]()
@@ -47,7 +58,7 @@ def catalogue_rules() -> TableCheck:
             keys |= {kind: word_check(word, kind) for kind in ROLES}
         elif word.key:
             keys[word.key] = word_check(word)
-    own = TableCheck(keys, is_whole=False)
+    own = TableCheck(keys, other=no_key, is_whole=False)
     return TableCheck({"catalogue": own}, other=no_faults, is_whole=False)
 
 

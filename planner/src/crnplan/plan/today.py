@@ -413,7 +413,7 @@ class Days:
     @cached_property
     def decided(self) -> list[Decided]:
         """Returns the items by all their periods, with their answers."""
-        return [*self.folder.answers(is_whole=True)]
+        return [*self.folder.answers()]
 
     def holdings(self, tables: Mapping[str, Table | None]) -> Holdings:
         """Reads tables of stock and of what is to come by kind: see `read_holdings`."""

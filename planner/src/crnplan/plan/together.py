@@ -29,7 +29,7 @@ from ..store.stored import Store
 from .correction import LEAST_ITEMS
 from .offers import Asked, Offer, OfferSums, met_on_past, offer_of, past_of
 from .one import each_answer
-from .prices import ITEMS, UNITS, VALUE, Price, Prices
+from .prices import Price, Prices, weight_of
 from .how import Settings
 from .learned import learned_once
 
@@ -72,12 +72,9 @@ class OnPast(NamedTuple):
         return 1 - float(np.interp(math.log(price), np.log(self.prices), self.unmet))
 
 
-def weighed(read: Catalogued, settings: Settings) -> Iterator[Item]:
-    """Yields the items in order by what decides what they weigh: without their demand, unless they weigh by that."""
-    if settings.weigh == ITEMS:
-        yield from read.items()
-        return
-    fields = "name", "holding", "backlog", "price", "category", "past"
+def without_demand(read: Catalogued) -> Iterator[Item]:
+    """Yields the items in order by what decides with which others they are planned: without their demand."""
+    fields = "name", "holding", "backlog", "no_shortage", "price", "category", "past"
     for cells in read.values(*fields):
         facts = dict(zip(fields, cells))
         yield Item(counts=(), leads=(), levels=None, setup=Fraction(0), **facts)
@@ -90,18 +87,18 @@ def members_of(
     weight costs to hold. Raises Refused if most of those for which a share is wanted have no price, by which they would
     weigh."""
     counts = Counter[bool]()
-    for item in weighed(read, settings):
+    for item in without_demand(read):
         if item.past in UNORDERED or settings.named_group(item) is None:
             continue
         group = settings.group_of(item)
         counts[group is not None] += 1
         if group is not None:
-            yield item.name, group, float(item.holding) / settings.weight_of(item)
-    if settings.weigh == VALUE and counts[False] > counts[True]:
+            yield item.name, group, float(item.holding) / weight_of(item)
+    if counts[False] > counts[True]:
         raise Refused(
             f"{counts[False]:,} of {counts.total():,} items that are to be planned together have no price, by which "
             "they would weigh",
-            f"give them one in the masters, or say {argument('weigh', UNITS)}",
+            "give them one in the masters",
         )
 
 

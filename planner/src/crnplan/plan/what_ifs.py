@@ -24,7 +24,6 @@ from ..words import sentence
 from .answer import CHOSEN, TODAY, Answer, Figures
 from .choice import best_of
 from .how import Settings, without_season
-from .prices import VALUE
 from .question import Terms, rates_of, rounded, terms_of
 from .yearly import mean_of
 
@@ -176,7 +175,7 @@ def what_if(
     if share is not None:
         case = case_of_share(terms, share)
         settings = dataclasses.replace(
-            settings, together={}, prices=None, at_least=None, weigh=VALUE
+            settings, together={}, prices=None, at_least=None
         )
     if lead is not None:
         case = dataclasses.replace(case, laws={"lead": Law((lead,), (1,))})

@@ -59,15 +59,13 @@ class Catalogued(Opened):
     def __init__(
         self,
         path: Path,
-        window: int | None = None,
         is_known: bool = False,
         planned: Sequence[str] = PLANNED,
     ) -> None:
-        """Opens a file that was written by `Writer`, whose items are given by their last `window` periods, or by all.
-        Plans depend on the columns `planned`. Raises Refused if it is not there, and Damaged, but for a file that is
-        known to be whole.
+        """Opens a file that was written by `Writer`. Plans depend on the columns `planned`. Raises Refused if it is not
+        there, and Damaged, but for a file that is known to be whole.
         """
-        self.path, self.window, self.folder = path, window, path.parent.parent
+        self.path, self.folder = path, path.parent.parent
         self.planned = planned
         if not path.is_file():
             raise Refused(
@@ -145,8 +143,7 @@ class Catalogued(Opened):
     def length(self) -> int:
         """Returns how many periods of the record count."""
         start, stop = self.fact("periods")
-        periods = int(stop - start)
-        return min(periods, self.window or periods)
+        return int(stop - start)
 
     def names(self, *pasts: str) -> Iterator[str]:
         """Yields the names of the items with one of these pasts, or of all."""
@@ -154,27 +151,14 @@ class Catalogued(Opened):
             if not pasts or past in pasts:
                 yield name
 
-    def whole_items(self, *name: str) -> Iterator[Item]:
-        """Yields the items in order, or that of a name, by all their periods."""
+    def items(self, *name: str) -> Iterator[Item]:
+        """Yields the items in order, or that of a name."""
         with reading(self.path):
             yield from map(ITEM.value, self._rows("*", *name))
 
-    def whole_item(self, name: str) -> Item | None:
-        """Returns the item of a name by all its periods; None if there is none."""
-        return next(self.whole_items(name), None)
-
-    def counting(self, item: Item) -> Item:
-        """Returns an item by the periods that count."""
-        return item.last(self.window)
-
-    def items(self) -> Iterator[Item]:
-        """Yields the items in order, by the periods that count."""
-        yield from map(self.counting, self.whole_items())
-
     def item(self, name: str) -> Item | None:
-        """Returns the item of a name, as `items` does; None if there is none."""
-        item = self.whole_item(name)
-        return item and self.counting(item)
+        """Returns the item of a name; None if there is none."""
+        return next(self.items(name), None)
 
     def overridden(self) -> Iterator[Item]:
         """Yields the items with an override; none of a file of a version that had none."""

@@ -179,13 +179,6 @@ class Item:
             promoted=among(self.promoted, kept),
         )
 
-    def last(self, window: int | None) -> Item:
-        """Returns the item as it is known by its last so many periods, or by all if that is None."""
-        periods = len(self.counts)
-        if window is None or window >= periods:
-            return self
-        return self.part(periods - window, periods)
-
 
 def overridden(item: Item, override: Override | None) -> Item:
     """Returns an item with an override, and what is to be said of it."""

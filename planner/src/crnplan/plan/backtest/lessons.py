@@ -1,9 +1,9 @@
-"""What the items of a catalogue have learned up to the end of their records, and by which words each method plans."""
+"""What the items of a catalogue have learned up to the end of their records, and how each method plans by that."""
 from __future__ import annotations
 
 import dataclasses
 from collections import defaultdict
-from collections.abc import Mapping, Sequence
+from collections.abc import Iterator, Mapping, Sequence
 from dataclasses import dataclass
 from pathlib import Path
 from typing import Any
@@ -23,10 +23,10 @@ from ..aims import Aims
 from ..correction import LEAST_ITEMS, OF_FILLS, tried_on, ways_of
 from ..how import Settings
 from ..learned import following_of, learned_of, seasons_of
-from ..prices import ITEMS, REST, weight_of
+from ..prices import REST, weight_of
 from ..seasons import Seasons
 from ..together import Finding
-from .methods import CORRECTED, FOLLOWED, KEPT, REFITTED, SEASONAL, TOGETHER, Walk, Way
+from .methods import CORRECTED, FOLLOWED, SEASONAL, TOGETHER, Walk, Way
 
 OF_RECORDS = OF_FILLS._replace(store=f"{IN_KEPT}backtest_trials.sqlite")
 LEAST_GROUP = 10  # Classes of fewer items have one price together.
@@ -34,20 +34,27 @@ DIGITS = 4  # of a wanted share
 
 
 class Records(Catalogued):
-    """A catalogue as it was at the end of the record of each item, by the last periods of that which count for a
-    plan. Nobody has stated a law then."""
+    """A catalogue as it was at the end of the record of each item. Nobody has stated a law then."""
 
-    def __init__(self, path: Path, record: int, periods: int | None) -> None:
+    def __init__(self, path: Path, record: int) -> None:
         super().__init__(path, planned=WEIGHED)
-        self.record, self.periods = record, periods
+        self.record = record
 
-    def counting(self, item: Item) -> Item:
-        known = item.part(0, self.record).last(self.periods)
-        return dataclasses.replace(known, law=None)
+    def items(self, *name: str) -> Iterator[Item]:
+        for item in self.whole_items(*name):
+            yield dataclasses.replace(item.part(0, self.record), law=None)
+
+    def whole_items(self, *name: str) -> Iterator[Item]:
+        """Yields the items in order, or that of a name, by all their periods."""
+        return super().items(*name)
+
+    def whole_item(self, name: str) -> Item | None:
+        """Returns the item of a name by all its periods; None if there is none."""
+        return next(self.whole_items(name), None)
 
     @property
     def length(self) -> int:
-        return min(super().length, self.record, self.periods or self.record)
+        return min(super().length, self.record)
 
 
 class OfRecords(Finding):
@@ -81,7 +88,6 @@ def uncorrected(settings: Settings) -> Settings:
         aims=None,
         overruns=None,
         together={},
-        weigh=Settings.weigh,
         at_least=None,
         prices=None,
         seasons=None,
@@ -101,10 +107,9 @@ class Learning:
     prior: Prior
     means: Means
 
-    def way(self, words: Mapping[str, Any], **learned: Any) -> Way:
+    def way(self, **words: Any) -> Way:
         """Returns the way of a method by words of planning and what was learned for it, with the same laws."""
-        settings = dataclasses.replace(self.settings, **words, **learned)
-        return Way(words, settings, self.prior)
+        return Way(dataclasses.replace(self.settings, **words), self.prior)
 
     def corrected(self) -> Way | Remark:
         """Returns the fill rates at which items would have aimed by their records alone, as `correct` has them; or why
@@ -115,31 +120,28 @@ class Learning:
         if len(tried) < LEAST_ITEMS:
             facts = {"items": len(tried), "least": LEAST_ITEMS}
             return Remark("not corrected", facts)
-        return self.way({"correct": True}, aims=Aims.of(tried))
+        return self.way(correct=True, aims=Aims.of(tried))
 
-    def together(self, weigh: str) -> Way | Remark:
+    def together(self) -> Way | Remark:
         """Returns the prices of classes by which their items would have been planned by theory and their records alone;
         or why they would not."""
-        shares = wanted_shares(self.read, weigh)
+        shares = wanted_shares(self.read)
         if not shares:
             return Remark("few together", {"least": LEAST_GROUP})
-        words = {"together": shares, "weigh": weigh}
-        on = dataclasses.replace(self.settings, **words)
+        on = dataclasses.replace(self.settings, together=shares)
         try:
             finding = OfRecords(self.folder, self.read, on, self.prior, self.means)
-            return self.way(words, prices=finding.prices())
+            return self.way(together=shares, prices=finding.prices())
         except Refused as why:
             return Remark("not together", {"what": worded(why.what)})
 
-    def followed(self, window: int) -> Way | None:
-        """Returns how far classes follow their level by their records alone, with the window of refitted plans; None if
-        none does."""
-        words = {"window": window, "follow": AUTO}
+    def followed(self) -> Way | None:
+        """Returns how far classes follow their level by their records alone; None if none does."""
         on = dataclasses.replace(self.settings, follow=AUTO)
         following = following_of(self.tests, self.read, on, True)
         if not following or not following.classes:
             return None
-        return self.way(words, following=following)
+        return self.way(follow=AUTO, following=following)
 
     def seasonal(self, stated: Settings) -> Way | Remark | None:
         """Returns the seasons that the records have, with what laws learn without them; None if there are none, or the
@@ -151,7 +153,7 @@ class Learning:
         if has_seasons(self.read, seasons):
             settings = dataclasses.replace(self.settings, seasons=seasons)
             prior = learned_of(self.tests, self.read, settings, True).prior
-            return Way({"season": AUTO}, settings, prior)
+            return Way(settings, prior)
         least = YEARS * CALENDAR[seasons.every]["season"]
         if stated.seasons and stated.seasons.classes and self.read.length < least:
             facts = {"record": self.read.length, "least": least}
@@ -164,14 +166,14 @@ def has_seasons(read: Records, seasons: Seasons) -> bool:
     return bool(seasons.classes) or any(map(seasons.of_item, read.items()))
 
 
-def wanted_shares(read: Catalogued, weigh: str) -> dict[str, float]:
-    """Returns which share of its demand each class of 10 items or more is to meet: what its items without a backlog cost
-    want, in the mean by what their demand weighs. All others are one class, whose name is empty.
+def wanted_shares(read: Catalogued) -> dict[str, float]:
+    """Returns which share of its demand each class of 10 items or more is to meet: what its items with a price and
+    without a backlog cost want, in the mean by the value of their demand. All others are one class, whose name is empty.
     """
     wanted = defaultdict[str, list[tuple[float, float]]](list)
     for item in read.items():
         counts = item.known.counts
-        weight = sum(counts) / max(1, len(counts)) * weight_of(item, weigh)
+        weight = sum(counts) / max(1, len(counts)) * weight_of(item)
         is_one = item.fill is not None and item.backlog is None
         if weight and is_one and item.past not in UNORDERED:
             wanted[item.category].append((weight, float(item.fill or 0)))
@@ -210,25 +212,20 @@ class Lessons:
         tests: Store[Any],
         read: Records,
         stated: Settings,
-        walk: Walk,
         means: Means,
     ) -> Lessons:
-        """Learns from the records of a catalogue. A price is that of items that weigh alike, as they do in sums, unless
-        the settings plan items together: then these say by what they weigh."""
+        """Learns from the records of a catalogue."""
         learned = learned_of(tests, read, uncorrected(stated), True)
         settings = dataclasses.replace(
             uncorrected(stated), borrow=learned.usual, every=read.fact("every")
         )
         on = Learning(folder, tests, read, settings, learned.prior, means)
-        ways = {KEPT: on.way({})}
-        window = settings.window or walk.window
-        ways[REFITTED] = on.way({"window": window})
-        remarks = [*learned.remarks]
+        ways, remarks = dict[str, Way](), [*learned.remarks]
         for code, way in (
             (CORRECTED, on.corrected()),
-            (TOGETHER, on.together(stated.weigh if stated.together else ITEMS)),
+            (TOGETHER, on.together()),
             (SEASONAL, on.seasonal(stated)),
-            (FOLLOWED, on.followed(window)),
+            (FOLLOWED, on.followed()),
         ):
             if isinstance(way, Remark):
                 remarks.append(way)
@@ -236,13 +233,7 @@ class Lessons:
                 ways[code] = way
         return cls(settings, learned.prior, ways, (*remarks,))
 
-    @property
-    def words(self) -> dict[str, Mapping[str, Any]]:
-        """Returns by which words of planning a catalogue is planned as each method."""
-        return {code: way.words for code, way in self.ways.items()}
-
     def common(self, walk: Walk) -> str:
         """Returns what all tests depend on, as a text."""
-        return repr(
-            [way.settings.common(repr(walk), way.prior) for way in self.ways.values()]
-        )
+        ways = Way(self.settings, self.prior), *self.ways.values()
+        return repr([way.settings.common(repr(walk), way.prior) for way in ways])

@@ -15,7 +15,7 @@ from collections.abc import Callable, Iterator, Mapping, Sequence
 from dataclasses import dataclass
 from functools import cached_property, partial
 from types import MappingProxyType
-from typing import Any, NamedTuple
+from typing import NamedTuple
 
 from ...demand.learning import Prior
 from ...errors import Refused
@@ -46,27 +46,13 @@ SHIFTS = -2, -1, 0, 1, 2
 @dataclass(frozen=True)
 class Walk:
     """How the past is walked through: a plan is made of the first `record` periods, and is kept or refitted after each
-    `every` periods more, on the last `window` of them. If the plan has a window, no more than that counts in either.
-    With a `least_gain` refitted plans are tested too whose levels stay if others gain less than this share of their
+    `every` periods more, on the last `window` of them. With a `least_gain` refitted plans are tested too whose levels stay if others gain less than this share of their
     cost. Raises Refused for what can't be meant."""
 
     record: int = 52
     every: int = 13
     window: int = 52
     least_gain: float | None = None
-
-    @classmethod
-    def of(
-        cls,
-        settings: Settings,
-        record: int,
-        every: int,
-        window: int | None,
-        least_gain: float | None,
-    ) -> Walk:
-        """Returns a walk whose window and least gain are as the plan has them, if they are not stated."""
-        window = window or settings.window or cls.window
-        return cls(record, every, window, least_gain or settings.least_gain)
 
     def stretches(self, periods: int) -> Iterator[tuple[int, int, int]]:
         """Yields for each plan the first period that it is made of, the first that it is for, and the one after it."""
@@ -76,10 +62,9 @@ class Walk:
 
 
 class Way(NamedTuple):
-    """How the items of a catalogue are planned by a method: by which words of planning, beside those of the kept plan; its
-    settings, with what was learned on the records for it; and what its laws learn."""
+    """How the items of a catalogue are planned by a method: its settings, with what was learned on the records for it; and
+    what its laws learn."""
 
-    words: Mapping[str, Any]
     settings: Settings
     prior: Prior
 
@@ -156,7 +141,7 @@ class Walked:
         return self.as_read.known_places[self.walk.record :]
 
     def _asked(self, start: int, stop: int, before: Levels | None = None) -> Question:
-        item = self.item.part(start, stop).last(self.settings.window)
+        item = self.item.part(start, stop)
         return question_of(item, self.settings, self.prior, before)
 
     def kept(self) -> Outcome:
@@ -278,9 +263,9 @@ def seasonal_of(walked: Walked) -> MethodRun | None:
 def months_planned(walked: Walked, way: Way) -> list[PlanInUse]:
     """Returns the plans of the later periods of an item by their months; none without a season. Raises Refused if it
     could not be planned so."""
-    item, window = walked.as_read, way.settings.window
+    item = walked.as_read
     record = dataclasses.replace(item.part(0, walked.later[0]), cut=())
-    question = question_of(record.last(window), way.settings, way.prior)
+    question = question_of(record, way.settings, way.prior)
     season = question.season
     if season is None:
         return []

@@ -331,15 +331,6 @@ class Sums:
         is_cheaper = method in self.equal and high < 0
         return is_cheaper or (self.lifts(method) and high <= most)
 
-    def has_lost(self, method: str) -> bool:
-        """Returns whether a method has lost beyond its errors: its stock and orders cost more than those of the kept plan
-        where both meet as much at once; or if they never do, it met less.
-        """
-        equal, gained = self.equal.get(method), self.gained.get(method)
-        if equal:
-            return equal.spent.at(self.alarm).low > 0
-        return gained is not None and gained.at(self.alarm).high < 0
-
     def spent(self, method: str) -> Estimate | None:
         """Returns what stock and orders of a method cost more than those of the kept plan where both meet as much at once;
         if they never do, what its own stock is above that."""
