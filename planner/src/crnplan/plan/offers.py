@@ -17,6 +17,7 @@ from .choice import by_prices
 from .correction import in_blocks
 from .drawn import Draws, DrawnItems, estimated
 from .how import Settings, flat_of
+from .prices import weight_of
 from .question import Levels, NoPolicy, Question, question_of
 
 MOST_TRIED, MOST_TAKEN = (
