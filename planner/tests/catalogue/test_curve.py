@@ -85,7 +85,7 @@ def tables_of(plan: Path) -> dict[str, bytes]:
     return {name: (plan / name).read_bytes() for name in TABLES}
 
 
-def test_points_are_known_without_a_curve(twenty: Path) -> None:
+def test_points_of_the_plan(twenty: Path) -> None:
     """Today's point and the chosen one are what the answers add up to: of all items with a price, of which one without a
     policy today counts with its chosen one."""
     found = drawn(twenty)
@@ -93,8 +93,15 @@ def test_points_are_known_without_a_curve(twenty: Path) -> None:
         totals = planned.totals
     for name in ("today", "chosen"):
         point, _ = found.points[name]
-        wanted = pytest.approx((point.value, point.fill), rel=1e-6)
-        assert totals.stock_and_service(name) == wanted
+        value, met, asked = (
+            totals[f"{figure}{of}"] + totals[f"{figure}_uncompared"]
+            for figure, of in (
+                ("value", f"_{name}"),
+                ("met", f"_{name}"),
+                ("demand", ""),
+            )
+        )
+        assert (point.value, point.fill) == pytest.approx((value, met / asked), 1e-6)
     said = "\nToday counts the chosen policy of 1 items that have none today.\n"
     assert said in found.text
 

@@ -1,4 +1,4 @@
-"""Tests the curve on the page of a catalogue, and the points that are known without one."""
+"""Tests the curve on the page of a catalogue, and what is said without one."""
 from __future__ import annotations
 
 import contextlib
@@ -17,7 +17,6 @@ from crnplan.curve.pictures import clipped
 from crnplan.plan.answer import Answer
 from crnplan.plan.catalogue import ANSWERS
 from crnplan.store.stored import Store
-from planner.tests.planned_tables import whole_table
 from planner.tests.show.made_catalogue import (
     made_folder,
     made_pair,
@@ -31,9 +30,6 @@ __all__ = ["large", "large_page"]
 
 
 CURVE = "Exchange curve: demand met at once against the value of the stock"
-
-
-KNOWN = "Demand met at once against the value of the stock"
 
 
 def test_curve(large: Path, large_page: Page) -> None:
@@ -91,9 +87,7 @@ def test_curve_is_clipped(
     ],
 )
 def test_no_curve(is_other: bool, said: str, tmp_path: Path) -> None:
-    """If there is no curve, or that of other answers, the page says what to run. It has the points that are known all the
-    same: what the items with a price hold and serve, with today's levels and with the chosen ones.
-    """
+    """If there is no curve, or that of other answers, the page says what to run."""
     folder = made_folder(tmp_path / "plan", 12, has_curve=is_other)
     if is_other:
         with contextlib.closing(Store(folder / ANSWERS, Answer)) as store:
@@ -101,34 +95,15 @@ def test_no_curve(is_other: bool, said: str, tmp_path: Path) -> None:
             store.keep_facts({"curve": json.dumps(curve | {"plan": "another"})})
     page = Page(crn.report(folder))
     assert said in page.words
-    assert CURVE not in page.pictures
-    rows = whole_table(folder)
-    rows["asked"] = rows.value_chosen / rows.stock_chosen * rows.demand
-    heading, *points = page.tables["Points that are known"]
-    assert heading == ["point", "stock value", "met at once"]
-    assert [point[0].strip() for point in points] == ["today", "chosen item by item"]
-    for (_, value, met), policy in zip(points, ("today", "chosen")):
-        assert float(value.replace(",", "")) == pytest.approx(
-            rows[f"value_{policy}"].sum(), abs=0.51
-        )
-        fill = (rows.asked * rows[f"fill_{policy}"]).sum() / rows.asked.sum()
-        assert float(met.strip("%")) == pytest.approx(100 * fill, abs=0.006)
-    assert (
-        f"today: {points[0][2]} met at once with a stock of {points[0][1]}"
-        in page.pictures[KNOWN]
-    )
+    assert CURVE not in page.pictures and "Points of the curve" not in page.tables
 
 
-def test_known_points_without_prices_or_levels(tmp_path: Path) -> None:
-    """Without prices there are none, and the page says which column is missing. Without today's levels there is one."""
+def test_no_curve_without_prices_or_levels(tmp_path: Path) -> None:
+    """Without prices the page says which column is missing. Without today's levels it says what draws the curve."""
     item, answer = made_pair(random.Random(1), "it")
     pair = replace(item, price=None), answer
     page = page_of(tmp_path / "plain", change=pair)
     assert "No item has a price, so its stock has no value" in page.words
-    assert "Points that are known" not in page.tables
     pair = replace(item, levels=None, price=Fraction(3)), without_today(answer)
     page = page_of(tmp_path / "new", change=pair)
-    (_, *points), value = page.tables["Points that are known"], 3 * answer.chosen.stock
-    assert points == [
-        ["chosen item by item", f"{value:,.2f}", f"{answer.chosen.fill:.2%}"]
-    ]
+    assert "is drawn by crnplan curve FOLDER" in page.words

@@ -68,8 +68,7 @@ def clipped(
 
 
 def exchange_plot(curve: Sequence[tuple[str, Point]], money: Money) -> Plot:
-    """Returns the exchange curve as a line, if it has one, and its named points: the value of stock against service in
-    percent."""
+    """Returns the exchange curve as a line, and its named points: the value of stock against service in percent."""
     named = {name: point for name, point in curve if name}
     end, bottom = curve_ends(named.values())
     unit = money.unit([end])
@@ -87,18 +86,14 @@ def exchange_plot(curve: Sequence[tuple[str, Point]], money: Money) -> Plot:
         x, y = round(across.at(value) / 10, 2), round(100 - up.at(share) / 10, 2)
         form = MARKERS[number].path
         points.append(NamedPoint(name, said, f"point-{number}", form, x, y))
-    title, lines = "Demand met at once against the value of the stock", []
     line = [place(point) for name, point in curve if not name]
-    if line:
-        title = "Exchange curve: demand met at once against the value of the stock"
-        path = path_of(across, up, clipped(line, across.high, bottom))
-        lines = [Line(LINE, OF_CHOSEN, path)]
+    path = path_of(across, up, clipped(line, across.high, bottom))
     return Plot(
-        title=title,
+        title="Exchange curve: demand met at once against the value of the stock",
         description=f"{'; '.join(point.said for point in points)}.",
         heights=up.heights,
         marks=across.marks,
         across=money.heading(AXIS, unit),
-        lines=lines,
+        lines=[Line(LINE, OF_CHOSEN, path)],
         points=points,
     )

@@ -276,17 +276,6 @@ class Totals:
             return self[f"fill_{policy}"] / items
         return fill
 
-    def stock_and_service(self, policy: str) -> tuple[float, float] | None:
-        """Returns what items with a price hold and serve with the policies of today, or with the chosen ones: the value of
-        the mean stock, and the share of demand, by value, that is met at once. An item without a policy today counts
-        with its chosen one. None if no item has a price."""
-        asked = self["demand"] + self[f"demand_{UNCOMPARED}"]
-        if not asked:
-            return None
-        value = self[f"value_{policy}"] + self[f"value_{UNCOMPARED}"]
-        met = self[f"met_{policy}"] + self[f"met_{UNCOMPARED}"]
-        return value, met / asked
-
     def run_ends(self, level: float) -> tuple[float, float]:
         """Returns the interval of all savings by runs. Those of different items are independent."""
         error, saving = math.sqrt(self["run_variance"]), self["run_saving"]

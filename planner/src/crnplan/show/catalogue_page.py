@@ -16,17 +16,14 @@ from urllib.parse import quote
 
 from ..arguments import judged
 from ..crnsim.program import find_program
-from ..curve.parts import Point
-from ..curve.exchange_curve import kept_curve, said_of
+from ..curve.exchange_curve import kept_curve
 from ..store.digests import sha256
 from ..store.files import IN_KEPT, Folder, own_folder
-from ..plan.answer import CHOSEN, TODAY, Answer
+from ..plan.answer import Answer
 from ..plan.backtest.catalogue import past_of
 from ..plan.catalogue import Decided, PlannedFolder, planned_folder
 from ..plan.item import depth_of
-from ..plan.how import Settings
 from ..plan.survey import Survey, saving_of
-from ..plan.totals import Totals
 from ..read.catalogue_reading import CATALOGUE, missing_of
 from ..read.frames import name_of
 from ..read.item import Item
@@ -139,9 +136,8 @@ def catalogue_page(
     curve = kept_curve(folder.store)
     money = money_of(folder)
     rows = shown_items(survey.greatest, folder.currency.digits)
-    shown_curve = curve or known_points(survey.totals, folder.settings)
-    plot = exchange_plot(shown_curve, money) if shown_curve else None
-    named = [point for name, point in shown_curve if name]
+    plot = exchange_plot(curve, money) if curve else None
+    named = [point for name, point in curve or () if name]
     return rendered(
         "catalogue.html",
         {
@@ -258,17 +254,6 @@ def bars_of(rows: Iterable[ShownItem]) -> list[Bar]:
                 ends = run.low, run.high
             bars.append(Bar(row, saving, *ends))
     return bars[:MOST_SAVINGS]
-
-
-def known_points(totals: Totals, settings: Settings) -> list[tuple[str, Point]]:
-    """Returns the points of the exchange curve that are known before it is drawn, without their orders and costs."""
-    points = []
-    for name in (TODAY, CHOSEN) if totals.compared else (CHOSEN,):
-        figures = totals.stock_and_service(name)
-        if figures:
-            point = Point(*figures, math.nan, math.nan)
-            points.append((said_of(name, settings), point))
-    return points
 
 
 def file_name(name: str) -> str:
