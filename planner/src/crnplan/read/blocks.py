@@ -138,7 +138,8 @@ class Block:
                 other |= columns[name].of_rows(unwanted, bool)
         if "item" in columns:
             names = map(str, columns["item"].distinct)
-            good = columns["item"].of_rows(map(is_name, names), bool)
+            is_name = (bool(it) and not UNPRINTABLE.search(it) for it in names)
+            good = columns["item"].of_rows(is_name, bool)
         places = np.cumsum(kept) - 1
         wide = {int(places[row]): texts for row, texts in cells.wide.items()}
         good[[*wide]] = False
@@ -186,11 +187,6 @@ class Block:
             self.good[rows],
             self.other[rows],
         )
-
-
-def is_name(text: str) -> bool:
-    """Returns whether a text can be the name of an item."""
-    return text != "" and not UNPRINTABLE.search(text)
 
 
 def blank_rows(cells: Cells, place: int) -> Flags:

@@ -75,14 +75,9 @@ def _joined(first: Mapping[str, Any], second: Mapping[str, Any]) -> Tree:
     return tree
 
 
-def named_in(tree: Mapping[str, Any]) -> Tree:
-    """Returns the words of a table by their names: columns are in tables by their files."""
-    columns = {kind: tree[kind] for kind in ROLES if kind in tree}
-    return {**tree, COLUMNS: columns or None}
-
-
 def made_from(kind: type[Made], tree: Mapping[str, Any]) -> Made:
     """Returns a value of a class with the words of a table that it has. Raises Refused for what can't be meant."""
-    known = named_in(tree)
+    columns = {name: tree[name] for name in ROLES if name in tree}
+    known = {**tree, COLUMNS: columns or None}
     words = words_in(kind).values()
     return kind(**{word.name: known.get(word.key or "") for word in words})

@@ -34,7 +34,7 @@ from .date_forms import (
     written,
 )
 from .month_names import months_of, plain_month
-from .turned_dates import Day as Day, interchanged, turned
+from .turned_dates import Day as Day, Turned, interchanged, turned
 
 EVERY = ("day", "week", "month")
 EPOCH = Day(1970, 1, 1).toordinal()  # from which numpy counts days
@@ -108,10 +108,10 @@ class DateReader:
             sign: {first: STATED[first].replace("/", sign)}
             for sign, first in (day_first or {}).items()
         }
-        self.names: dict[str, str] = {}
+        self.names = set[str]()
         self.months: Mapping[str, Mapping[int, str]] = {}
         self.turned: dict[Cell, bool | None] = {}
-        self.first_text = self.first_pattern = ""
+        self.likely = Turned({})
         self.years = set[int]()
         self.has_weeks = False  # whether numbers beside years are those of weeks
         self.is_of_weeks = False  # whether a column is named by its weeks
@@ -132,7 +132,7 @@ class DateReader:
         for text, parts in dates.items():
             self._look_at(text, parts)
         if self.names:
-            self.months = months_of(self.names.values())
+            self.months = months_of(self.names)
         for text, parts in dates.items():
             if self._settled(parts).period == self.every != "day":
                 self.notes.setdefault(
@@ -153,7 +153,7 @@ class DateReader:
         if parts.form == SHORT:
             self.years.add(parts.whole_year)
         if parts.name:
-            self.names.setdefault(parts.name, plain_month(parts.name))
+            self.names.add(plain_month(parts.name))
 
     def _settled(self, parts: Written) -> Written:
         """Returns the parts of a date, in which a number beside the year is that of a week if one of the table is above 12."""
@@ -167,8 +167,7 @@ class DateReader:
         for cell, is_turned in found.by_cell.items():
             if self.turned.setdefault(cell, is_turned) is not is_turned:
                 self.turned[cell] = None
-        self.first_text = self.first_text or found.text
-        self.first_pattern = self.first_pattern or found.pattern
+        self.likely = self.likely if self.likely.text else found
         decided = [cell for cell in found.by_cell if found.by_cell[cell] is not None]
         if found.text and decided:
             code = "turned" if found.by_cell[decided[0]] else "not turned"
@@ -241,8 +240,8 @@ class DateReader:
                 "may be turned",
                 str(cell),
                 turned=str(other),
-                other=shown(self.first_text),
-                pattern=self.first_pattern,
+                other=shown(self.likely.text),
+                pattern=self.likely.pattern,
             )
         return other
 

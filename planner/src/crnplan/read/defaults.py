@@ -208,41 +208,30 @@ class Defaults(Vocabulary):
         except Unreadable as why:
             raise Refused(f"{argument(name, stated)}: {message(why.remark)}") from why
 
-    def fill_of(
-        self, group: str, own: Fraction | None, backlog: Fraction | None
-    ) -> tuple[Fraction | None, str]:
-        """Returns the wanted fill of an item of a class with a backlog cost, and where it is from; None and no source if
-        there is none.
+    def goals_of(self, group: str, read: Mapping[str, Any]) -> Goals:
+        """Returns what is wanted of an item of a class by the values of its row, and where that is from.
 
         :meta private:
         """
+        if read["no_shortage"] is not None:
+            return Goals(read["fill"], read["no_shortage"], {"no_shortage": MASTERS})
+        has_cost = read["backlog"] is not None
         stated = [
-            (MASTERS, own),
+            (MASTERS, read["fill"]),
             (CLASS, self.service.get(group)),
             (DEFAULT, self.fill),
         ]
-        if backlog is None:
+        if not has_cost:
             stated += [
                 (CLASS, self.together.get(group)),
                 (DEFAULT, self.together.get("")),
             ]
         for source, fill in stated:
             if fill is not None:
-                return fill, source
-        return None, ""
-
-    def goals_of(self, group: str, read: Mapping[str, Any]) -> Goals:
-        """Returns what is wanted of an item of a class by the values of its row, and where that is from.
-
-        :meta private:
-        """
-        fill, no_shortage = read["fill"], read["no_shortage"]
-        if no_shortage is not None:
-            return Goals(fill, no_shortage, {"no_shortage": MASTERS})
-        fill, source = self.fill_of(group, fill, read["backlog"])
-        if self.no_shortage is not None and fill is read["backlog"] is None:
+                return Goals(fill, None, {"fill": source})
+        if self.no_shortage is not None and not has_cost:
             return Goals(None, self.no_shortage, {"no_shortage": DEFAULT})
-        return Goals(fill, None, {"fill": source})
+        return Goals(None, None, {"fill": ""})
 
     def check_classes(self, groups: Collection[str]) -> None:
         """Raises Refused if a share is wanted for a class that no item has.

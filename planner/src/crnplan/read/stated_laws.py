@@ -6,8 +6,9 @@ from __future__ import annotations
 
 import itertools
 import statistics
-from collections.abc import Callable, Mapping, Sequence
+from collections.abc import Mapping, Sequence
 from fractions import Fraction
+from functools import partial
 from typing import TYPE_CHECKING, Any, NamedTuple, Union
 
 import numpy as np
@@ -52,7 +53,8 @@ if TYPE_CHECKING:
 # Laws by item as a table of one form, or as values.
 StatedTable = Union[Table, Mapping[str, Law], "pd.Series"]
 PERIOD = "period"  # what a period of the plan is called, whatever it is
-SHARES = {"chance", "quantile"}  # the columns of shares
+# The columns of shares: in percent if they are, or if a cell says so.
+SHARES = {"chance", "quantile"}
 
 
 class Stated(NamedTuple):
@@ -72,8 +74,10 @@ class StatedLaws:
         self.numbers = dict[str, Any]()
         for role, kind in AMOUNTS[LAWS].items():
             if role in rows.columns:
-                whole = role == "value" and self.form == VALUES
-                read = self._reader(role, "items" if whole else kind)
+                if role == "value" and self.form == VALUES:
+                    kind = "items"
+                unit = rows.sheet.columns[role].unit if role in SHARES else None
+                read = partial(table.amounts[role].number, kind=kind, unit=unit)
                 column = table.read(role, read, Fraction(0))
                 self.numbers[role] = column.of_rows(table.values[role], object)
         self.periods = np.zeros(len(rows), np.int64)
@@ -85,13 +89,6 @@ class StatedLaws:
         self.bad: Flags = rows.good & table.bad
         table.reject_all(self.bad)
         self.rows_of = rows.by_item(rows.good)
-
-    def _reader(self, role: str, kind: str) -> Callable[[Cell], Fraction]:
-        """Returns what reads the numbers of a column, of a kind of KINDS: shares in percent if it is, or if the cell says
-        so."""
-        reader = self.table.amounts[role]
-        unit = self.rows.sheet.columns[role].unit if role in SHARES else None
-        return lambda cell: reader.number(cell, kind, unit)
 
     def _period(self, cell: Cell) -> int:
         """Returns the number of the period of a path: as it stands there, or that of a date."""

@@ -5,6 +5,7 @@ So a history, a catalogue and today's tables are read.
 from __future__ import annotations
 
 from collections.abc import Callable, Collection, Iterable, Mapping, Sequence
+from dataclasses import dataclass
 from fractions import Fraction
 from functools import partial
 from typing import Any, TypeVar
@@ -64,31 +65,27 @@ def values_of(
     return values, wrong
 
 
+@dataclass
 class TableReader:
     """Reads the columns of a table. By role, `values` has what its cells say, and `wrong` what is wrong with them, by their
     codes, and `factors` by what numbers are multiplied that have a unit. `states` says what becomes of each row. What is left
     out or suspicious is handed on to `add`, if it is given."""
 
-    def __init__(
-        self,
-        kind: str,
-        rows: Rows,
-        dates: DateReader,
-        amounts: Mapping[str, AmountReader],
-        add: Callable[[Reject], None] | None = None,
-    ) -> None:
+    kind: str
+    rows: Rows
+    dates: DateReader
+    amounts: Mapping[str, AmountReader]
+    add: Callable[[Reject], None] | None = None
+
+    def __post_init__(self) -> None:
         """Rejects the rows that name no item, and those with too many cells."""
-        self.kind = kind
-        self.rows = rows
-        self.dates = dates
-        self.amounts = amounts
-        self.add = add
-        self.factors = factors_of(rows.sheet.columns, str(rows.sheet.rules.every))
-        states = np.where(rows.other, PLACES[OTHER], PLACES[OPEN])
+        sheet = self.rows.sheet
+        self.factors = factors_of(sheet.columns, str(sheet.rules.every))
+        states = np.where(self.rows.other, PLACES[OTHER], PLACES[OPEN])
         self.states: States = states.astype(np.int8)
         self.values = dict[str, list[Any]]()
         self.wrong = dict[str, Wrong]()
-        for row, wrong in rows.nameless():
+        for row, wrong in self.rows.nameless():
             self.reject(row, [wrong], "")
 
     def read(
