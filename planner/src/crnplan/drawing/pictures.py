@@ -134,11 +134,6 @@ def savings_picture(savings: Mapping[str, float], money: str) -> Picture:
         path += f"M{zero:g} {top:g}H{across.at(savings[name]):g}v{2 * half:g}H{zero:g}z"
     title = "Items with the greatest savings and losses"
     said = f"saving of the chosen policy beside today's, in {money}"
-    lines = [Line("", "zero", upright(across.at(0)))]
+    lines = [Line("", "zero", f"M{across.at(0):g} 0v{UNITS:g}")]
     plot = Plot(title, title, rows, across.marks, said, lines, bars=path)
     return Picture.of([plot])
-
-
-def upright(place: float, top: float = 0, height: float = UNITS) -> str:
-    """Returns the path of a line across a picture, or a part of one, from the top down."""
-    return f"M{place:g} {top:g}v{height:g}"

@@ -135,11 +135,11 @@ def path_of(across: Scale, up: Scale, points: Iterable[tuple[float, float]]) -> 
     return f"M{'L'.join(places)}"
 
 
-def bars(heights: Sequence[float], scale: Scale, first: int = 0, count: int = 0) -> str:
-    """Returns the path of bars: of the periods from one on, of so many, or of all."""
-    width = UNITS / max(count or len(heights), 1)
+def bars(heights: Sequence[float], scale: Scale) -> str:
+    """Returns the path of bars, one for each period."""
+    width = UNITS / max(len(heights), 1)
     path = ""
-    for place, height in enumerate(heights, first):
+    for place, height in enumerate(heights):
         if height:
             top = f"V{scale.down(height):g}h{BAR * width:.1f}V{UNITS}z"
             path += f"M{place * width:.1f} {UNITS}{top}"
