@@ -69,6 +69,11 @@ class Standing:
             return self.answer.chosen_in(self.period).levels
         return self.answer.chosen.levels
 
+    @property
+    def shown_levels(self) -> dict[str, int]:
+        """Returns s and S by name; nothing if the item is not planned."""
+        return dict(zip("sS", self.levels)) if self.is_planned else {}
+
     @cached_property
     def period(self) -> int:
         """Returns the number of the period of the day."""
@@ -151,6 +156,11 @@ class Standing:
     def worth(self, items: Fraction | int) -> Worth:
         """Returns what so many items are worth."""
         return None if self.item.price is None else items * self.item.price
+
+    @property
+    def placed_worth(self) -> Worth:
+        """Returns what its order in whole packs is worth."""
+        return self.worth(self.placed)
 
     @cached_property
     def mean(self) -> float:

@@ -95,7 +95,7 @@ class OrderGroup:
     @cached_property
     def value(self) -> Fraction:
         """Returns what all orders are worth, but for those of items without a price."""
-        return sum_of_money(standing.worth(standing.placed) for standing in self.due)
+        return sum_of_money(standing.placed_worth for standing in self.due)
 
     @property
     def excess(self) -> Fraction:
@@ -133,7 +133,7 @@ class OrderGroup:
             if not standing.is_due and standing.to_level > 0 and weeks is not None:
                 waiting.append((weeks, standing.item.name, standing))
         for _, _, standing in sorted(waiting, key=itemgetter(0, 1)):
-            worth = standing.worth(standing.placed)
+            worth = standing.placed_worth
             if self.minimum is None or total >= self.minimum:
                 return
             if worth:

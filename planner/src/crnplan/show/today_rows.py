@@ -7,7 +7,7 @@ from typing import Any, NamedTuple
 
 from ..plan.risk import Risk
 from ..plan.standing import Worth, Standing
-from ..plan.today import Addition, OrderGroup, Lying, Today
+from ..plan.today import OrderGroup, Lying, Today
 from ..read.item import Item
 from ..read.observed import Day
 from ..remarks import Remark
@@ -120,27 +120,7 @@ class GroupRow:
         return supplier_file(self.today.place(self.group.name))
 
 
-Stands = TodayRow | UnknownRow | Listed | Addition | Risk
 Reasoned = TodayRow | UnknownRow | Listed | Risk
-
-
-def point_of(row: Stands) -> int | None:
-    if row.standing and row.standing.is_planned:
-        return row.standing.levels[0]
-    return None
-
-
-def level_of(row: Stands) -> int | None:
-    if row.standing and row.standing.is_planned:
-        return row.standing.levels[1]
-    return None
-
-
-def placed_worth(row: Stands) -> Worth:
-    """Returns what an order in whole packs is worth."""
-    if row.standing:
-        return row.standing.worth(row.standing.placed)
-    return None
 
 
 def codes(row: Reasoned) -> str:
@@ -156,9 +136,6 @@ def next_receipt(risk: Risk) -> Day | str:
 
 
 CELLS: Mapping[str, Callable[[Any], Any]] = {
-    "s": point_of,
-    "S": level_of,
-    "value": placed_worth,
     "code": codes,
     "why": said,
     "next_receipt": next_receipt,
