@@ -25,7 +25,7 @@ from .catalogue_tables import DECISION_COLUMNS, DETAIL_COLUMNS, ItemDecision
 from ..columns import columns_of
 from .calendars import ItemMonth
 from .item_plots import ALONE, history_plot, law_plot, stock_plot
-from .law_words import law_said, law_words
+from .law_words import law_words, plain_words
 from ..drawing.plots import Scale
 from ..drawing.rendering import capital, number, rendered, templates
 from .verdicts import VERDICTS
@@ -207,7 +207,7 @@ class ItemWords:
     @property
     def law_said(self) -> str:
         """Returns in plain words by which law demand is planned."""
-        return law_said(self.question.all_year)
+        return f"Demand is planned by {plain_words(self.question.all_year)}."
 
     @property
     def below(self) -> str:
