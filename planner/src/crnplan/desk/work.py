@@ -20,10 +20,10 @@ from pathlib import Path
 from typing import Any
 
 import crnplan as crn
-from ..api import take_tables
 from ..errors import CrnplanError
 from ..spelling import spelt
-from ..read.catalogue_reading import CATALOGUE
+from ..read.catalogue_reading import CATALOGUE, read_into
+from ..read.file_kinds import PLANNED
 from ..store.files import MARKER, own_folder
 from ..store.interrupts import heed_interrupt, heeding_interrupts
 from ..store.work import Progress, shown_by
@@ -127,10 +127,9 @@ def files_of(asked: dict[str, Any]) -> tuple[list[Any], dict[str, Any]]:
 
 def read(asked: dict[str, Any], reading: crn.Reading, settings: crn.Settings) -> None:
     """Reads the files of a desk, and keeps what was read."""
-    files, others = files_of(asked)
-    read = crn.read_catalogue(*files, **others, reading=reading)
+    tables = dict.fromkeys(PLANNED) | asked["tables"]
     with own_folder(Path(asked["out"]), CATALOGUE) as folder:
-        take_tables(folder, read, None, None, None, reading, None)
+        read_into(folder, tables, reading, None)
 
 
 def plan(asked: dict[str, Any], reading: crn.Reading, settings: crn.Settings) -> None:
