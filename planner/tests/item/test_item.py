@@ -199,8 +199,7 @@ def test_boxes(alone: Alone, tmp_path: Path) -> None:
     rows = its.frame
     assert (rows.s["today"], rows.S["today"]) == (40_000, 90_000)
     assert rows.S["chosen"] > 10_000
-    title = "Demand by week, and the law that it is planned by"
-    assert f"{sum(counts):,} items" in page_of(its, tmp_path).pictures[title]
+    assert f"{sum(counts):,} items" in page_of(its, tmp_path).words
     saving = rows.run_cost["today"] - rows.run_cost["chosen"]
     said = re.search(
         r"In the long run, by crnsim \([^)]*\), the chosen policy costs ([0-9,.]+) less a",
