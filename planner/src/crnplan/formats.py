@@ -57,11 +57,6 @@ def _pattern(characters: list[str], least: int, most: int) -> re.Pattern[str]:
     return re.compile(f"[{signs}]{{{least},{most}}}")
 
 
-def _named(kind: str) -> tuple[str, ...]:
-    """Returns the columns of a report that are of a kind."""
-    return tuple(name for name, of_kind in COLUMNS.items() if of_kind == kind)
-
-
 _FORMATS = tomllib.loads(Path(__file__).with_name("formats.toml").read_text("utf-8"))
 _SCENARIO, _CHECKPOINT = _FORMATS["scenario"], _FORMATS["checkpoint"]
 
@@ -98,10 +93,10 @@ MOST_LETTERS = limits("policy", "name")[1]
 RULES: dict[str, int] = _SCENARIO["rules"]
 CHECKPOINT_RULES: dict[str, int] = _CHECKPOINT["rules"]
 
-# Reports: the kind of each column by its name, in order, the heading line, and the columns of each kind.
+# Reports: the kind of each column by its name, in order, the heading line, and the columns of whole numbers.
 COLUMNS: dict[str, str] = _FORMATS["report"]["columns"]
 HEADER = ",".join(COLUMNS)
-WHOLE, FRACTIONS = _named("whole"), _named("fraction")
+WHOLE = tuple(name for name, kind in COLUMNS.items() if kind == "whole")
 
 # Checkpoints: the versions, rising; the fields of each row by its kind, and the kinds with a value and its weight, in
 # order.

@@ -45,6 +45,13 @@ from .tables import PLACES, REJECTED, USED, WITH_ITEM, TableReader
 COUNTED = ("open_orders", "twice", "named", "ready", "left_out", "late")
 
 
+def check_level(item: Item) -> None:
+    """Raises Left for an item whose S is more than the program counts."""
+    if item.levels and round(item.levels[1] / item.box) > MOST_ITEMS:
+        wrong = fault("S", item.levels[1], "S too large", most=MOST_ITEMS)
+        raise Left("items", item.line, wrong)
+
+
 class Reader:
     """Makes the items of a catalogue, or of a part of it, and hands them on with what is left out."""
 
@@ -307,14 +314,11 @@ class Reader:
             receipts=tuple(receipts),
         )
         item = replace(item, past=past_of(item, self.words))
-        if item.levels and round(item.levels[1] / item.box) > MOST_ITEMS:
-            wrong = fault("S", item.levels[1], "S too large", most=MOST_ITEMS)
-            raise Left("items", item.line, wrong)
+        check_level(item)
         self.decimals = max(self.decimals, master.decimals)
         self.sources.update(master.sources.items())
         is_bare = stated is not None and not asked
-        begins_late = first > self.record.periods[0] and master.since is None
-        is_late = begins_late and not is_bare
+        is_late = not is_bare and self._begins_late(first, master)
         self.numbers["late"] += is_late
         self._note_unknown(item, moves)
         remarks = tuple(self._remarks(item, code, is_late, netted))
@@ -324,6 +328,10 @@ class Reader:
             self.numbers["bare"] += is_bare
         item = replace(item, remarks=remarks)
         return overridden(item, item.override)
+
+    def _begins_late(self, first: int, master: Master) -> bool:
+        """Returns whether an item's record begins after that of the table, without a word of its master."""
+        return first > self.record.periods[0] and master.since is None
 
     def _unknown(self, code: int, first: int, count: int) -> tuple[set[int], set[int]]:
         """Returns the places of the periods of which a row of an item has no amount that can be read, of so many from one
