@@ -151,18 +151,13 @@ class _Reader(TableReader):
         if "ordered" in items and "quantity" not in items:
             less = items.get("received", NONE) + items.get("cancelled", NONE)
             items["quantity"] = max(items["ordered"] - less, NONE)
-        if self.kind == ON_ORDER:
-            items["filed"] = self._filed(row, items, size)
-        return items
-
-    def _filed(self, row: int, items: Values, size: Fraction | int) -> Fraction:
-        """Returns how many items were ordered in a row of open orders; what is still to come if no cell says it."""
-        ordered: Fraction = items.get("ordered", items["quantity"])
+        # How many were ordered in a row of open orders: what is to come if no cell says it.
+        items["filed"] = items.get("ordered", items.get("quantity"))
         for name, mark in self.rows.sheet.marks.items():
             if mark.use == ORDERED:
                 number = self.amounts["quantity"].known(self.rows.cell(name, row))
-                return ordered if number is None else number * size
-        return ordered
+                items["filed"] = items["filed"] if number is None else number * size
+        return items
 
     def _leave(self, code: str, others: Flags, **facts: Value) -> None:
         count = np.count_nonzero(others & self.rows.good)
@@ -215,18 +210,13 @@ class _Reader(TableReader):
                 "most": f"{float(owed - stock):g}",
             }
             yield fault("owed", self.rows.cell("owed", row), "owed twice", **facts)
-        if self.kind == QUANTITIES:
-            yield from self._judged_quantity(row, values["quantity"])
-
-    def _judged_quantity(self, row: int, quantity: Fraction) -> Iterator[CellFault]:
-        """Yields what is wrong with what a planner orders of an item of the plan, in one row."""
         name = self.names[self.rows.items[row]]
-        if name not in self.prices:
+        if self.kind != QUANTITIES or name not in self.prices:
             return
         if name in self.judged:
             yield fault("item", name, "several quantities", item=name)
         self.judged.add(name)
-        wrong = quantity_fault(quantity, name, self.packs.get(name, 1))
+        wrong = quantity_fault(values["quantity"], name, self.packs.get(name, 1))
         if wrong:
             yield "quantity", self.rows.cell("quantity", row), wrong
 
