@@ -322,7 +322,7 @@ class Plan(Result):
         # The folder may end with this plan, and the curve may be used for longer.
         return drawn.keep() if self.room else drawn
 
-    @judged("call")
+    @judged("today", "call")
     @taking(Reading, shown=OF_TODAY)
     def orders_today(
         self,

@@ -40,7 +40,7 @@ class Report(Result):
         """Returns the rows as plain data: fractions as texts, None if there is no figure."""
         return {"policies": self.table.records}
 
-    @judged("call")
+    @judged("run")
     def decide(self, level: float = 0.95) -> Decision:
         """Returns all policies by rank, the cheapest first, with paired-t intervals and verdicts.
 

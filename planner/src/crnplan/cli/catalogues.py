@@ -117,7 +117,7 @@ def only_read(read: Catalogue, rejects: Path | None) -> list[str]:
 def planned(folder: Folder, settings: Settings, asked: Mapping[str, Any]) -> list[str]:
     """Plans a catalogue that was read into a folder, and says what comes of it. Returns what is lost or broken."""
     means = Means(asked["jobs"], asked["cluster"], asked["program"], shown=True)
-    done = plan_catalogue(folder, settings, means, asked["after"], asked["again"])
+    done = plan_catalogue(folder, settings, means, asked["after"], asked["learn_again"])
     write_scenario(folder, asked["program"])
     line = (
         f"{folder.path}: {done.planned:,} items planned, {done.kept:,} kept from before"

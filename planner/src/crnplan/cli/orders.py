@@ -1,6 +1,7 @@
 """The commands that say what to order today, by themselves and on the pages of a plan: by the same words."""
 from __future__ import annotations
 
+import datetime
 from pathlib import Path
 from typing import Any
 
@@ -19,7 +20,7 @@ from .words import command
 
 
 def orders_by(
-    folder: Path, *, date: str | None, config: str | None, **asked: Any
+    folder: Path, *, date: datetime.date | None, config: str | None, **asked: Any
 ) -> OrdersToday:
     """Returns what to order on a day by the words of both commands."""
     tables = {kind: asked.pop(kind) for kind in KINDS}

@@ -127,7 +127,7 @@ class LongRunReport(Result):
         """Returns the figures of a period, indexed by `policy`, the cheapest first, with intervals at a level of 0.95."""
         return self.decide().table
 
-    @judged("call")
+    @judged("run")
     def decide(self, level: float = 0.95) -> Decision:
         """Returns all policies, the cheapest first, with paired-t intervals of a period, verdicts, and theory's figures beside.
 

@@ -18,7 +18,6 @@ from typing import NamedTuple
 
 from ..columns import columns_of
 from ..crnsim.report import ReportRow
-from ..errors import Refused, argument
 from ..remarks import Remark
 from ..scenario import BY_ITS_LAWS
 from ..table import DataTable, Json, Result, names_of
@@ -189,11 +188,7 @@ def ranked(
     replications: int,
     theory: Sequence[float | None] = (),
 ) -> tuple[Compared, ...]:
-    """Returns compared policies, the cheapest first, perhaps with costs by theory. Raises Refused for a level."""
-    if not 0 < level < 1:
-        raise Refused(
-            f"{argument('level', f'{level:g}')}: a level is between 0 and 1, as 0.95"
-        )
+    """Returns compared policies, the cheapest first, perhaps with costs by theory."""
     tails, joint, single = 1 - level, 0.0, 0.0
     policies = list[Compared]()
     if replications > 1:
@@ -229,7 +224,7 @@ def ranked(
 def decided(
     rows: Sequence[ReportRow], replications: int, level: float = 0.95
 ) -> Decision:
-    """Compares all rows of a report with its first one. Raises Refused for a level that is not between 0 and 1."""
+    """Compares all rows of a report with its first one."""
     base, estimates, percents = rows[0], list[RunEstimate](), list[float | None]()
     for row in rows:
         own = error = percent = None

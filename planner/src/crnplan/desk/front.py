@@ -12,7 +12,7 @@ from typing import Any, TypeVar, cast
 
 from flask import Response, current_app, request, send_file, send_from_directory
 
-from ..errors import CrnplanError, Refused, argument
+from ..errors import CrnplanError, Refused
 from ..spelling import spelt
 from ..plan.catalogue import PlannedFolder, planned_folder
 from ..planned import Plan
@@ -21,7 +21,7 @@ from ..drawing.rendering import rendered
 from ..read.file_kinds import PLANNED
 from ..store.files import IN_KEPT, read_folder
 from ..table import DataTable
-from ..toml.documents import shown
+from ..vocabulary import numbers, read_argument
 from .kept import LOOK, Begun, Desk
 from .language import ENGLISH, LANGUAGES, as_field, words_of
 from .safety import TOKEN, WHOLE_PAGE, Secret
@@ -237,13 +237,7 @@ def page(template: str, **facts: Any) -> str:
 def whole_of(name: str, low: int, high: int) -> int | None:
     """Returns the whole number in a field of a form or a query; None if it is empty. Raises Refused for anything else."""
     text = request.values.get(name, "").strip()
-    if not text:
-        return None
-    is_whole = text.isdecimal() and len(text) <= len(str(high))
-    if not is_whole or not low <= int(text) <= high:
-        what = f"{argument(name)}: {shown(text)} is no whole number from {low:,} to {high:,}"
-        raise Refused(what, "write one")
-    return int(text)
+    return read_argument(name, text, numbers(low, high).read) if text else None
 
 
 def whole_page(folder: Path, name: str) -> Response:

@@ -7,6 +7,7 @@ import math
 import os
 from collections.abc import Iterator, Mapping
 from decimal import Decimal
+from functools import partial
 from typing import TYPE_CHECKING, Any, SupportsIndex
 
 import numpy as np
@@ -127,33 +128,14 @@ def read_name(value: Any) -> str:
     return name_of(value)
 
 
-def table_kind(column: str = "", is_demand: bool = False) -> Kind:
-    """Returns the kind of the path of a table, a DataFrame, or what stands for one: columns by name, or rows by name. With a
-    `column` it may be a Series by item too, which has the amounts of that column, and of demand one by date, which is that
-    of the item of its name."""
-
-    def read(value: Any) -> Any:
-        import pandas as pd
-
-        if isinstance(value, (str, os.PathLike)):
-            return read_path(value)
-        if isinstance(value, pd.DataFrame):
-            return value
-        if column and isinstance(value, Mapping):
-            values = [*value.values()]
-            if values and all(map(pd.api.types.is_scalar, values)):
-                value = pd.Series(value)
-        if not isinstance(value, pd.Series):
-            return frame_of(value)
-        return demand_frame(value) if is_demand else item_frame(value, column)
-
-    return Kind(read)
-
-
-def frame_of(value: Any) -> pd.DataFrame:
-    """Returns columns by name, or rows by name, as a table. Raises Refused for anything else."""
+def read_table(value: Any) -> Any:
+    """Returns the path of a table, a DataFrame, or what stands for one: columns by name, or rows by name. Raises Refused."""
     import pandas as pd
 
+    if isinstance(value, (str, os.PathLike)):
+        return read_path(value)
+    if isinstance(value, pd.DataFrame):
+        return value
     rows = value if isinstance(value, list) else [value]
     if rows and all(isinstance(row, Mapping) and row for row in rows):
         try:
@@ -161,46 +143,50 @@ def frame_of(value: Any) -> pd.DataFrame:
         except ValueError as why:
             advice = "give a DataFrame, or columns of one length"
             raise Refused(f"no table: {why}", advice) from why
+    name = "a Series" if isinstance(value, pd.Series) else type(value).__name__
     raise Refused(
-        f"{type(value).__name__} is no table with headings",
+        f"{name} is no table with headings",
         "give a DataFrame with named columns, or the path of a file",
     )
 
 
-def demand_frame(series: pd.Series) -> pd.DataFrame:
-    """Returns a Series by date, or by item and date, as a table of demand. Raises Refused for others."""
+def read_demand(value: Any) -> Any:
+    """Returns a table: also that of a Series by date, which is the demand of the item of its name, or by item and date.
+    Raises Refused."""
     import pandas as pd
 
-    index = series.index
+    index = value.index if isinstance(value, pd.Series) else None
     if isinstance(index, pd.MultiIndex):
-        return pd.DataFrame(series.reset_index(name=series.name or "quantity"))
+        return pd.DataFrame(value.reset_index(name=value.name or "quantity"))
     if not isinstance(index, (pd.DatetimeIndex, pd.PeriodIndex)):
-        return item_frame(series)
-    if series.name is not None:
-        columns = {"item": series.name, "date": index, "quantity": series.to_numpy()}
-        return pd.DataFrame(columns)
-    raise Refused(
-        "the Series has no name, so its item is not known",
-        'give it the name of the item, as sales.rename("A-17")',
-    )
+        return read_table(value)
+    if value.name is None:
+        raise Refused(
+            "the Series has no name, so its item is not known",
+            'give it the name of the item, as sales.rename("A-17")',
+        )
+    columns = {"item": value.name, "date": index, "quantity": value.to_numpy()}
+    return pd.DataFrame(columns)
 
 
-def item_frame(series: pd.Series, column: str = "") -> pd.DataFrame:
-    """Returns a Series by item as a table with a column of its amounts. Raises Refused for others, and without a column."""
+def read_by_item(column: str, value: Any) -> Any:
+    """Returns a table: also that of a Series or a dict by item, which has the amounts of a column. Raises Refused."""
     import pandas as pd
 
     others = pd.DatetimeIndex, pd.PeriodIndex, pd.MultiIndex
-    if column and not isinstance(series.index, others):
-        return pd.DataFrame({"item": series.index, column: series.to_numpy()})
-    raise Refused(
-        "a Series is no table with headings", "give a DataFrame with named columns"
-    )
+    values = [*value.values()] if isinstance(value, Mapping) else []
+    if values and all(map(pd.api.types.is_scalar, values)):
+        value = pd.Series(value)
+    if isinstance(value, pd.Series) and not isinstance(value.index, others):
+        return pd.DataFrame({"item": value.index, column: value.to_numpy()})
+    return read_table(value)
 
 
 NAME = Kind(read_name)
 NAMES = Kind(several(read_name))
-TABLE, DEMAND = table_kind(), table_kind(is_demand=True)
-STOCK, QUANTITIES = table_kind("stock"), table_kind("quantity")
+TABLE, DEMAND = Kind(read_table), Kind(read_demand)
+STOCK = Kind(partial(read_by_item, "stock"))
+QUANTITIES = Kind(partial(read_by_item, "quantity"))
 
 
 def number_of(value: int | float | Decimal, text: str) -> Cell:
