@@ -20,7 +20,7 @@ from ..drawing.plots import (
     marks_of,
     steps,
 )
-from ..drawing.rendering import capital, number, tick
+from ..drawing.rendering import number, tick
 
 ALONE = "the law of this item alone"
 MOST_BARS = 520
