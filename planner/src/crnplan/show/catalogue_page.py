@@ -52,7 +52,6 @@ from .item_page import ItemWords, item_page, scenario_text
 from .lateness import LATENESS, lateness_of
 from .promise_tables import aims_of, costs_of, together_of
 from ..drawing.rendering import Money, rendered
-from ..drawing.plots import Scale
 from .today_tables import OrdersToday, orders_by_masters
 from .verdicts import VERDICTS
 
@@ -64,7 +63,6 @@ ITEMS = "items"  # the folder of their pages
 OLD = f"{IN_KEPT}swings.", f"{IN_KEPT}curve_"
 MOST_ROWS = 5_000  # items in the table
 ROWS_A_GROUP = 45  # which are laid out together; the first group is printed
-MOST_SAVINGS = 15
 MOST_REASONS = 12  # of each kind
 FIRST_REASONS = 3  # on the first screen
 # A name whose file would have more letters is cut, and its digest stands behind it. File systems allow 255 bytes.
@@ -119,15 +117,6 @@ TRAITS = declared("show/words.toml")["items"]
 ITEM_COLUMNS = [ItemColumn(its.name, **TRAITS[its.name]) for its in DECISION_COLUMNS]
 
 
-class Bar(NamedTuple):
-    """What an item saves, with the interval of its run."""
-
-    shown: ShownItem
-    saving: float
-    low: float
-    high: float
-
-
 def catalogue_page(
     folder: PlannedFolder, survey: Survey, orders: OrdersToday | None = None
 ) -> str:
@@ -156,7 +145,6 @@ def catalogue_page(
             "curve": curve,
             "verdicts": VERDICTS,
             **board_facts(folder, survey),
-            **bars_facts(rows),
             **table_facts(folder.path, rows),
         },
     )
@@ -186,16 +174,6 @@ def board_facts(folder: PlannedFolder, survey: Survey) -> dict[str, object]:
         "first_reasons": FIRST_REASONS,
         "asked": math.fsum(survey.asked),
     }
-
-
-def bars_facts(rows: Sequence[ShownItem]) -> dict[str, object]:
-    """Returns what the picture of the greatest savings has."""
-    bars = bars_of(rows)
-    ends = [0.0]
-    for bar in bars:
-        ends += bar.saving, bar.low, bar.high
-    together = math.fsum(bar.saving for bar in bars)
-    return {"bars": bars, "bar_scale": Scale.of(ends), "together": together}
 
 
 def table_facts(folder: Path, rows: Sequence[ShownItem]) -> dict[str, object]:
@@ -241,19 +219,6 @@ def pages_of(folder: Path, rows: Iterable[ShownItem]) -> dict[str, str]:
     return {
         name: quote(f"{ITEMS}/{file}") for name, file in files.items() if file in there
     }
-
-
-def bars_of(rows: Iterable[ShownItem]) -> list[Bar]:
-    """Returns the items with the greatest savings, each with the interval of its run, by falling saving."""
-    bars = []
-    for row in rows:
-        saving = saving_of(row.answer)
-        if isinstance(row.answer, Answer) and saving and saving > 0:
-            run, ends = row.answer.run, (saving, saving)
-            if run and run.low is not None and run.high is not None:
-                ends = run.low, run.high
-            bars.append(Bar(row, saving, *ends))
-    return bars[:MOST_SAVINGS]
 
 
 def file_name(name: str) -> str:
@@ -369,8 +334,8 @@ def report(
     """Writes the page of a planned folder, report.html, and returns its path.
 
     The page has what the plan saves a year, with service and stock before and after, the exchange curve if
-    `exchange_curve` has drawn it, the greatest savings, what was left out and why, and a table of all items, which sorts and
-    filters; above 5,000 items, of those with the greatest saving or loss. It is one file that asks for no other; the same plan
+    `exchange_curve` has drawn it, what was left out and why, and a table of all items, the greatest saving first, which sorts
+    and filters; above 5,000 items, of those with the greatest saving or loss. It is one file that asks for no other; the same plan
     and orders give the same bytes.
 
     Parameters
