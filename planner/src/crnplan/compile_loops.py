@@ -3,10 +3,7 @@ from __future__ import annotations
 
 import numpy as np
 
-from .demand.borrowing import borrowed_laws
-from .demand.checks import remarks_of
 from .demand.borrowing import fit_demand
-from .demand.learning import learn
 from .runs import Scenario
 from .theory.every_gap import best_policies
 from .theory.lattice import theories_of
@@ -14,13 +11,8 @@ from .theory.run_effects import start_bias
 
 
 def compile_all() -> None:
-    """Compiles all loops by what asks for each: fits of laws, tests of a history, and searches with one lead time, with
-    several, and with returns."""
-    counts = 12 * [0, 0, 3, 0, 1, 0, 0, 9, 0]
-    first_month = 12 * 2000  # months are numbered from the year 0
-    borrowed_laws(learn([counts] * 100), counts, times=1)
-    remarks_of(counts, "month", first_month)
-    demand = fit_demand(counts)
+    """Compiles all loops by what asks for each: searches with one lead time, with several, and with returns."""
+    demand = fit_demand(12 * [0, 0, 3, 0, 1, 0, 0, 9, 0])
     for lead, returns in (([2], None), ([1, 3], None), ([1, 3], [0, 0, 0, 0, 1])):
         scenario = Scenario.of(
             demand, lead, returns=returns, setup=20, holding=1, backlog=9, today=(3, 9)

@@ -14,7 +14,6 @@ from crnplan.chances import Floats
 from crnplan.demand import permutation
 from crnplan.demand.permutation import Orders, centred
 from planner.studies.warnings import p_value, statistics_of
-from planner.tests.conftest import leave_as_written
 
 ALL_ORDERS = [*itertools.permutations([0, 5, 2, 0, 9, 1])]
 SEASONS = {"season": np.array([0, 1, 0, 1, 0, 1])}
@@ -133,19 +132,6 @@ def test_orders() -> None:
     counts, _, _ = np.histogram2d(drawn[1:].ravel(), numbers * 1199, bins=30)
     squares = ((counts - 1199 / 30) ** 2 / (1199 / 30)).sum()
     assert stats.chi2.sf(squares, 29**2) > 1e-4
-
-
-@pytest.mark.parametrize("size, lengths", [(8, ()), (13, (2,)), (24, (4, 7))])
-def test_statistics_as_written(
-    size: int, lengths: tuple[int, ...], monkeypatch: pytest.MonkeyPatch
-) -> None:
-    """As it is written, the loop has the statistics that it has as it is compiled."""
-    random = np.random.default_rng(size)
-    rows = random.permuted(np.tile(random.poisson(1.5, size), (9, 1)), axis=1)
-    parts = [np.arange(size) % length for length in lengths]
-    compiled = statistics(rows, parts)
-    leave_as_written(monkeypatch, permutation)
-    assert statistics(rows, parts) == pytest.approx(compiled)
 
 
 @pytest.mark.parametrize(

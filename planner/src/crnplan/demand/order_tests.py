@@ -146,9 +146,8 @@ def _change(before: Floats, after: Floats) -> float | None:
 def tests_of(facts: TestedHistory, in_full: bool = True) -> tuple[OrderTest, ...]:
     """Returns the tests of a history. It has none if it is short or all its numbers are equal.
 
-    Only `in_full` are there tests if none warns, and p values of those that don't warn; else these are 1, and all takes a
-    millisecond. If a season is seen, a trend and a shift are looked for in what is left
-    without it.
+    Only `in_full` are there tests if none warns, and p values of those that don't warn; else these are 1, and all takes a few
+    milliseconds. If a season is seen, a trend and a shift are looked for in what is left without it.
     """
     if len(facts.numbers) < LEAST_PERIODS or len({*facts.numbers}) == 1:
         return ()

@@ -17,7 +17,6 @@ import numpy as np
 import numpy.typing as npt
 
 from ..chances import Floats, Whole
-from ..compiled import compiled
 
 Places = npt.NDArray[np.integer[Any]]
 
@@ -27,7 +26,7 @@ TIMES = 1199  # orders; with the history there are 1,200, of which 5% over 2, 3,
 LAGS = 3  # More of them see less of a dependence between neighbours. Seasons, trends and shifts have their own tests.
 EDGE = 0.1  # the share of the periods at either end in which no shift is looked for
 MOST_CELLS = 1 << 18  # of the orders that are in memory at a time
-AT_ONCE = 40  # orders that are looked at before a test is left
+AT_ONCE = 100  # orders that are looked at before a test is left
 KEPT = 8  # such parts of the drawn orders, for further histories of as many periods
 ROUNDING = 1e-9  # Orders whose statistics differ by less are as suspicious.
 
@@ -52,7 +51,6 @@ def autocorrelations(far: Floats, places: Whole) -> Floats:
     return np.asarray(products / np.einsum("i,i", far, far))
 
 
-@compiled
 def step_weights(size: int) -> Floats:
     """Returns by what the square of the sum of the distances up to each period is multiplied: the sum of squares that a
     step after it explains. Its share of all squares rises with the difference of the means before and after it, divided
@@ -60,26 +58,18 @@ def step_weights(size: int) -> Floats:
     """
     weights = np.zeros(size)
     edge = max(1, math.ceil(EDGE * size))
-    for before in range(edge, size - edge + 1):
-        weights[before - 1] = size / (before * (size - before))
+    before = np.arange(edge, size - edge + 1)
+    weights[before - 1] = size / (before * (size - before))
     return weights
 
 
-@compiled
-def between_parts(ranks: Floats, part_of: Whole) -> float:
-    """Returns the sum over the parts of a season of the squared sum of its ranks over the number of its periods."""
-    sums = np.zeros(part_of.max() + 1)
-    sizes = np.zeros(len(sums))
-    for place in range(len(ranks)):
-        sums[part_of[place]] += ranks[place]
-        sizes[part_of[place]] += 1.0
-    between = 0.0
-    for part in range(len(sums)):
-        between += sums[part] ** 2 / max(sizes[part], 1.0)
-    return between
+def between_parts(ranks: Floats, part_of: Whole) -> Floats:
+    """Returns for each row of ranks the sum over the parts of a season of their squared sum over the number of periods."""
+    of_part = part_of[:, None] == np.unique(part_of)
+    sums = ranks @ of_part.astype(float)
+    return np.asarray(sums**2 @ (1 / of_part.sum(axis=0)))
 
 
-@compiled
 def statistics_in(
     far: Floats, ranks: Floats, orders: Places, parts: Whole, places: Whole
 ) -> Floats:
@@ -95,37 +85,29 @@ def statistics_in(
       one-criterion variance analysis, 1952), with ties.
     """
     size = len(far)
-    time = places - places.mean()
-    spread, seen = np.zeros(places[-1] + 1), np.zeros(places[-1] + 1)
-    for place in range(size):
-        seen[places[place]] = 1.0
-    pairs = np.ones(LAGS + 1)
+    numbers, ranked = far[orders], ranks[orders]
+    squares, rank_squares = far @ far, ranks @ ranks
+    seen = np.zeros(places[-1] + 1)
+    seen[places] = 1.0
+    spread = np.zeros((len(orders), len(seen)))
+    spread[:, places] = numbers
+    boxed = np.zeros(len(orders))
     for lag in range(1, LAGS + 1):
-        pairs[lag] = max(np.dot(seen[lag:], seen[:-lag]), 1.0)
-    weights = step_weights(size)
-    rank_squares = np.sum(ranks**2)
-    found = np.zeros((len(orders), 3 + len(parts)))
-    for each in range(len(orders)):
-        numbers = far[orders[each]]
-        ranked = ranks[orders[each]]
-        below = slope = explained = 0.0
-        for place in range(size):
-            below += numbers[place]
-            slope += ranked[place] * time[place]
-            explained = max(explained, below**2 * weights[place])
-            spread[places[place]] = numbers[place]
-        for lag in range(1, LAGS + 1):
-            product = np.dot(spread[lag:], spread[:-lag])
-            found[each, 0] += product**2 / pairs[lag]
-        found[each, 1] = slope**2
-        found[each, 2] = explained
-        for season in range(len(parts)):
-            found[each, 3 + season] = between_parts(ranked, parts[season])
-    found[:, 0] *= size * (size + 2) / np.sum(far**2) ** 2
-    found[:, 1] /= np.sum(time**2) * rank_squares
-    found[:, 2] /= np.sum(far**2)
-    found[:, 3:] *= (size - 1) / rank_squares
-    return found
+        products = np.einsum("ij,ij->i", spread[:, lag:], spread[:, :-lag])
+        boxed += products**2 / max(1.0, float(seen[lag:] @ seen[:-lag]))
+    time = centred(places.astype(float))
+    steps = np.cumsum(numbers, axis=1) ** 2 * step_weights(size)
+    return np.transpose(
+        [
+            boxed * size * (size + 2) / squares**2,
+            (ranked @ time) ** 2 / (time @ time * rank_squares),
+            steps.max(axis=1) / squares,
+            *(
+                (size - 1) / rank_squares * between_parts(ranked, part_of)
+                for part_of in parts
+            ),
+        ]
+    )
 
 
 def in_order(size: int) -> Places:
