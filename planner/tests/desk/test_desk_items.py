@@ -348,5 +348,6 @@ def test_what_is_set_is_read_whatever_the_files_are_like(
     with planner.desk.changing() as state:
         state.overrides["Größe; 1"] = DeskOverride("Größe; 1", 7, 33, reason="größer")
     table = planner.desk.overrides_table()
-    stated, _ = read_overrides(table, made_from(Reading, planner.desk.tree))
+    words = made_from(Reading, planner.desk.tree)
+    stated = read_overrides(table, words, ["Größe; 1"]).overrides
     assert stated == {"Größe; 1": Stated(SET_LEVELS, 7, 33, "größer")}

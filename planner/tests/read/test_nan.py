@@ -93,8 +93,8 @@ REFUSED: dict[str, tuple[Callable[[], object], str]] = {
         lambda: crn.Scenario.of([1], [1], **{**COSTS, "setup": NAN}),
         "costs: setup: nan is not an amount",
     ),
-    "columns of items beside zeros": (
-        lambda: crn.read_catalogue(DEMAND.to_frame().assign(B=DEMAND), MASTERS),
+    "columns of weeks beside zeros": (
+        lambda: crn.read_catalogue(DEMAND.to_frame().assign(B=DEMAND).T, MASTERS),
         "an empty cell may be no demand, or demand that is not known; say empty=none",
     ),
 }

@@ -28,7 +28,8 @@ from ..read.catalogue_reading import CATALOGUE, read_into
 from ..read.file_kinds import NEEDED, OF_PLANS, PLANNED, files_by_kind
 from ..read.items import Reading
 from ..read.opening import Table
-from ..read.overriding import OVERRIDES, set_overrides
+from ..read.overriding import set_overrides
+from ..read.stock import OVERRIDES
 from . import note
 from .keys import words_of
 from .words import command

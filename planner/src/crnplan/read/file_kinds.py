@@ -18,9 +18,8 @@ from .items import Reading
 from .law_forms import LAWS
 from .opening import LOCK, Table
 from .moves import OUT
-from .overriding import OVERRIDES
 from .several import files_of
-from .stock import EXPORTED
+from .stock import EXPORTED, OVERRIDES
 from .workbooks import BOOKS, sheets_of
 
 SUFFIXES = ".csv", ".txt", ".tsv", ".gz", *BOOKS  # of tables

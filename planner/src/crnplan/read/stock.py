@@ -1,6 +1,6 @@
-"""Reads today's tables: stock, what is owed to customers, what is on order or placed since, and quantities.
+"""Reads today's tables: stock, what is owed to customers, what is on order or placed since, and what a planner decides.
 
-Quantities are what a planner orders in place of what the plan says.
+That are quantities, ordered in place of what the plan says, and overrides of the plan itself.
 """
 from __future__ import annotations
 
@@ -18,6 +18,7 @@ from ..errors import Fault, RefusedFaults
 from ..remarks import Remark, Value
 from .amounts import AMOUNTS
 from .column_words import ORDERED
+from .columns import ROLES
 from .cells import CellFault, Flags, fault, printable, text_of
 from .marks import (
     PLACE,
@@ -32,6 +33,7 @@ from .controls import Controls, controls_of, counts_of
 from .items import FileCounts, Reject, Reading
 from .observed import Day
 from .opening import Table
+from .overrides import Override, level_faults, word_of
 from .quantities import Quantity, quantity_fault
 from .several import open_tables
 from .sources import Sheet
@@ -43,6 +45,7 @@ KINDS = STOCK, ON_ORDER, PLACED, QUANTITIES = (
     "placed",
     "quantities",
 )  # of the tables
+OVERRIDES = "overrides"  # the kind of the table that a plan reads
 TO_COME = ON_ORDER, PLACED  # the kinds of what is to come
 EXPORTED = STOCK, ON_ORDER  # those that other systems write
 NONE = Fraction(0)
@@ -72,7 +75,8 @@ class Arrival:
 @dataclass(frozen=True)
 class Holdings:
     """What tables say of today, by item. `on_hand` is None without a table of stock. `unread` are items with a row that
-    can't be read: what they have is not known. `quantities` are what a planner orders. `counts` say what became of the
+    can't be read: what they have is not known. `quantities` are what a planner orders, and `overrides` what is set, None for an
+    item of which nothing is set any longer. `counts` say what became of the
     rows of each table, `controls` what they come to, and `remarks` what is to be said of them. `as_of` is the day of the
     stock, None if no column says it. `filed` has what was ordered in each row of open orders, also if nothing is to come.
     """
@@ -87,6 +91,7 @@ class Holdings:
     controls: Controls = field(default_factory=dict)
     as_of: Day | None = None
     filed: Mapping[str, Sequence[Fraction]] = field(default_factory=dict)
+    overrides: Mapping[str, Override | None] = field(default_factory=dict)
 
 
 class _Reader(TableReader):
@@ -105,6 +110,7 @@ class _Reader(TableReader):
         super().__init__(kind, *alone(kind, sheet), self.rejects.append)
         self.prices, self.packs = prices, packs
         self.unread, self.judged = set[str](), set[str]()
+        self.overrides = dict[str, Override | None]()
         self.names = self.rows.names
         self.said = list[Remark]()
         self.asked = list[Remark]()
@@ -119,8 +125,9 @@ class _Reader(TableReader):
         if "due" in self.rows.columns:
             for remark in self.dates.notes.values():
                 self.name("suspicious", 0, "", [("due", "", remark)])
-        others = {"due": self.dates.day, "reason": printable}
-        self.read_rows({**readers, **others}, readers)
+        others = {"due": self.dates.day, "override": word_of, "reason": printable}
+        needed = () if kind == OVERRIDES else readers
+        self.read_rows({**readers, **others}, needed)
 
     def is_of(self, sheet: Sheet) -> bool:
         """Returns whether a table is in the same files as the one that was read, and nobody has changed these since."""
@@ -134,7 +141,7 @@ class _Reader(TableReader):
         values, faults = self.row(row)
         if not faults:
             faults = [*self._judged(row, values)]
-        if not faults:
+        if not faults and self.kind != OVERRIDES:
             values |= self._in_items(row, values)
         return values, faults
 
@@ -211,6 +218,8 @@ class _Reader(TableReader):
             }
             yield fault("owed", self.rows.cell("owed", row), "owed twice", **facts)
         name = self.names[self.rows.items[row]]
+        if self.kind == OVERRIDES:
+            yield from self._judged_override(row, name, values)
         if self.kind != QUANTITIES or name not in self.prices:
             return
         if name in self.judged:
@@ -219,6 +228,17 @@ class _Reader(TableReader):
         wrong = quantity_fault(values["quantity"], name, self.packs.get(name, 1))
         if wrong:
             yield "quantity", self.rows.cell("quantity", row), wrong
+
+    def _judged_override(
+        self, row: int, name: str, values: Values
+    ) -> Iterator[CellFault]:
+        """Yields what is wrong with what a planner sets of an item, in one row. Rows of one item say the same."""
+        s, S, word, reason = map(values.get, ROLES[OVERRIDES][1:])
+        wrong = [*level_faults(self.rows.cells(row), ("s", "S"), s, S, word)]
+        override = None if wrong else Override.of(s, S, word, reason)
+        if self.overrides.setdefault(name, override) != override:
+            wrong.append(fault("item", name, "several overrides", item=name))
+        yield from wrong
 
     @cached_property
     def found(self) -> dict[str, list[Values]]:
@@ -238,7 +258,7 @@ class _Reader(TableReader):
                 if faults:
                     self.unread.add(name)
                     self.reject(row, faults)
-                if row in twins:
+                if row in twins and self.kind != OVERRIDES:
                     first = self.rows.sheet.called(lines[twins[row]])
                     twin = fault("item", name, "equal rows", first=first)
                     self.name("suspicious", lines[row], name, [twin])
@@ -289,17 +309,15 @@ class _Reader(TableReader):
         yield from said_of_marks(self.kind, self.rows, split_items(self.rows))
         yield from self.said
 
-    def quantities(self) -> dict[str, Quantity]:
-        """Returns the quantities of items. Raises RefusedFaults with all that is wrong: nothing is ordered by a table that
-        can't be read."""
-        quantities = dict[str, Quantity]()
-        for name, (row, *_) in self.found.items():
-            quantities[name] = Quantity(int(row["quantity"]), row.get("reason") or "")
+    def decided(self) -> dict[str, list[Values]]:
+        """Returns what `found` does. Raises RefusedFaults with all that is wrong: nothing is ordered by a table that can't be
+        read."""
+        found = self.found
         rejects = (reject for reject in self.rejects if reject.kind == "row")
         faults = [Fault(it.remark, it.file, it.line) for it in rejects]
         if faults:
             raise RefusedFaults(sorted(faults, key=attrgetter("file", "line")))
-        return quantities
+        return found
 
 
 def read_holdings(
@@ -330,9 +348,12 @@ def read_holdings(
     stock, on_order = readers.get(STOCK), readers.get(ON_ORDER)
     arrivals = defaultdict[str, list[Arrival]](list)
     quantities = dict[str, Quantity]()
+    overrides = dict[str, Override | None]()
     for kind, reader in readers.items():
-        if kind == QUANTITIES:
-            quantities = reader.quantities()
+        for name in reader.decided() if kind == OVERRIDES else ():
+            overrides[name] = reader.overrides[name]
+        for name, (row, *_) in reader.decided().items() if kind == QUANTITIES else ():
+            quantities[name] = Quantity(int(row["quantity"]), row.get("reason") or "")
         for name, rows in reader.found.items() if kind in TO_COME else ():
             lines = [row for row in rows if row["quantity"]]
             arrivals[name] += [Arrival(it["quantity"], it.get("due")) for it in lines]
@@ -346,6 +367,7 @@ def read_holdings(
         *_said_by(readers.values()),
         stock.as_of if stock else None,
         on_order.filed if on_order else {},
+        overrides,
     )
 
 
