@@ -304,11 +304,6 @@ class _Reader(TableReader):
 
         return controls_of(self, price_of, self.sizes)
 
-    def remarks(self) -> Iterator[Remark]:
-        """Yields what is to be said of the rows: over which places items are summed, and states of rows."""
-        yield from said_of_marks(self.kind, self.rows, split_items(self.rows))
-        yield from self.said
-
     def decided(self) -> dict[str, list[Values]]:
         """Returns what `found` does. Raises RefusedFaults with all that is wrong: nothing is ordered by a table that can't be
         read."""
@@ -382,7 +377,8 @@ def _said_by(
     for reader in readers:
         rows, kind = reader.rows, reader.kind
         rejects += reader.rejects
-        remarks += reader.remarks()
+        remarks += said_of_marks(kind, rows, split_items(rows))
+        remarks += reader.said
         controls |= reader.controls
         size, blank = len(rows), len(rows.blank)
         counts[kind] = counts_of(kind, rows.sheet, size, blank, controls)

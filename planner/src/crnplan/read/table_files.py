@@ -79,14 +79,6 @@ class FiledTable:
         """Returns how many good rows have each value of a column that one has; nothing if there is no column."""
         return dict(+self.seen.get(role, Counter()))
 
-    def pieces(self, part: int) -> list[Piece]:
-        """Returns where the rows of a part are."""
-        return [
-            Piece(before, block.path, block.places[part])
-            for before, block in self.blocks
-            if part in block.places
-        ]
-
 
 # The tables of a part of the items, by kind, with where their rows are.
 CataloguePart = Mapping[str, tuple[Sheet, Sequence[Piece]]]
@@ -96,7 +88,14 @@ def part_of(
     tables: Mapping[str, FiledTable], number: int, kinds: Iterable[str]
 ) -> CataloguePart:
     """Returns the part of a number of some of the tables."""
-    return {kind: (tables[kind].sheet, tables[kind].pieces(number)) for kind in kinds}
+    part = dict[str, tuple[Sheet, list[Piece]]]()
+    for kind in kinds:
+        pieces = list[Piece]()
+        for before, block in tables[kind].blocks:
+            if number in block.places:
+                pieces.append(Piece(before, block.path, block.places[number]))
+        part[kind] = tables[kind].sheet, pieces
+    return part
 
 
 def rows_of_part(part: CataloguePart) -> dict[str, Rows]:
