@@ -281,7 +281,7 @@ def test_diagnostics() -> None:
 
 @pytest.mark.parametrize("case", cases("notes.toml"), ids=lambda it: it["lines"][:1])
 def test_notes(case: dict[str, Any]) -> None:
-    """It is said how a law was fitted, and which families the guard rejects."""
+    """It is said how a law was fitted."""
     facts, learned = case.get("facts", {}), case.get("borrowed")
     if "guard" in facts:
         facts["guard"] = {name: Shares(*it) for name, it in facts["guard"].items()}

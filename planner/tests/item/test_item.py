@@ -133,8 +133,6 @@ def test_a_page_says_by_which_law(
     plain = {"empirical": "Demand is planned by this history."}
     fitted = "Demand is planned by the law fitted to this history."
     assert plain.get(fit, fitted) in before
-    assert "BIC" not in before
-    assert ("BIC above the least" in folded) == (fit != "empirical")
     assert "Of each of the 4 lead times seen, " in folded
     for text in (spoken(its.text), page.words):
         assert words.get(fit, "the law fitted to this history (auto: ") in text

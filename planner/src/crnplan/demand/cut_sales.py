@@ -73,7 +73,7 @@ def fit_of(family: Family, known: Sample, cuts: Sample) -> CutFit | None:
         if found is None:
             return None
         member = found
-        law = family.laws(tuple(np.array([[part]]) for part in member), most)[0]
+        law = family.laws(member, most)[0]
         before, counts = counts, np.rint(PARTS * spread(law, cuts)).astype(np.int64)
         counts[: most + 1] += own
         size = min(len(before), len(counts))

@@ -33,9 +33,7 @@ class Fit(NamedTuple):
 
     def law(self, most: int) -> Floats:
         """Returns the law of the member, without the end of its tail. `most` is the largest number that was seen."""
-        return cut(
-            self.family.laws(tuple(np.array([[it]]) for it in self.member), most)[0]
-        )
+        return cut(self.family.laws(self.member, most)[0])
 
 
 class Family(ABC):
@@ -95,9 +93,10 @@ class Family(ABC):
     def laws(self, parameters: Parameters, most: int) -> Floats:
         """Returns a row of chances of 0, 1, 2 and so on for each member, without the end of the tail. `most` is the
         largest number that was seen."""
+        columns = [np.reshape(parameter, (-1, 1)) for parameter in parameters]
         width = max(FIRST_WIDTH, 2 * most)
         while True:
-            chances = self.chances(DEMANDS[:width], *parameters)
+            chances = self.chances(DEMANDS[:width], *columns)
             total = chances.sum(axis=1, keepdims=True)
             if width > MOST_DEMAND or total.min() > 1 - LEAST_TAIL:
                 return np.asarray(chances / total)

@@ -49,13 +49,9 @@ class LawSummary:
         places = np.searchsorted(
             np.cumsum(weights), [np.ceil(share * size - 1e-6) for share in QUANTILES]
         )
-        variance: float | None = float(weights / size @ (values - mean) ** 2)
-        if is_sample:
-            variance = (
-                float((weights @ values**2 - law.mean**2 * size) / (size - 1))
-                if size > 1
-                else None
-            )
+        variance: float | None = None
+        if size > is_sample:
+            variance = float(weights @ (values - mean) ** 2) / (size - is_sample)
         return cls(
             mean,
             variance,
@@ -312,7 +308,8 @@ def _dense(observed: Any, what: str) -> Iterable[Any]:
 
 
 def fit_words(law: FittedLaw) -> Iterator[str]:
-    """Yields how a law was fitted; nothing of one that was asked for as it was seen, or that is stated."""
+    """Yields how a law was fitted; nothing of one that was asked for as it was seen, or that is stated. `diagnostics` has
+    the rest: what the history says for and against each family."""
     fit = law.diagnostics
     borrowed = law.diagnostics.borrowed
     if fit.method in (EMPIRICAL, STATED):
@@ -351,8 +348,6 @@ def _words_of_borrowed(borrowed: Borrowed) -> Iterator[str]:
             f"the history is 10^{borrowed.log10_bayes:.1f} times as likely under what was learned as without it"
             + ": unlike the catalogue; look at it" * borrowed.unlike
         )
-    if borrowed.guard:
-        yield _guard_words("what was learned", borrowed.guard, not borrowed.alone)
 
 
 def _words_of_families(law: FittedLaw) -> Iterator[str]:
@@ -376,27 +371,7 @@ def _words_of_families(law: FittedLaw) -> Iterator[str]:
             yield f"for the family bulk, the {counted(fit.bulks[0], 'demand')} of at least {fit.bulks[1]} are bulks"
     else:
         yield law.family
-    if fit.bic:
-        yield "BIC above the least: " + ", ".join(
-            f"{family} {bic - min(fit.bic.values()):.1f}"
-            for family, bic in fit.bic.items()
-        )
-    # Of the families that pass, their weights say enough; `diagnostics` has the rest.
-    yield from (
-        _guard_words(family, shares, False)
-        for family, shares in fit.guard.items()
-        if not shares.passes
-    )
 
 
 def _mixed(share: float) -> str:
     return f", mixed with {1 - share:.0%} of what was seen" * (share < 1)
-
-
-def _guard_words(family: str, shares: Shares, passes: bool) -> str:
-    return (
-        f"guard: a history of {family} varies as much with chance {shares.as_much:.2f}, as little with "
-        f"{shares.as_little:.2f}, is as far off with {shares.as_far:.2f}, has no larger demand with "
-        f"{shares.as_low:.2f}, as large a one with {shares.as_high:.2f}"
-        + ": rejected" * (not passes)
-    )

@@ -156,9 +156,7 @@ def demand_laws(
     ):
         family, parameters, shares, _ = members[place]
         member = np.searchsorted(shares[:-1], uniform)
-        (law,) = family.laws(
-            tuple(column[member : member + 1] for column in parameters), packs.most
-        )
+        (law,) = family.laws(tuple(its[member] for its in parameters), packs.most)
         base = scaled(in_items(cut(law), pack)[: int(end) + 1])
         drawn.append(round_history(base, sample, SHARES[periods], random, COUNTED))
     return drawn
