@@ -106,8 +106,8 @@ def test_months_in_a_column() -> None:
 
 # What is said of a table that has a column for each item, which is not read.
 COLUMNS_OF_ITEMS = (
-    'no column looks like the item; say columns={"demand": {"item": "NAME"}}; if each column is an item, write a row for '
-    "each movement, or for each item with a column for each period; the columns are: "
+    'no column looks like the item; say columns={"demand": {"item": "NAME"}}, or swap rows and columns if items are '
+    "columns; the columns are: "
 )
 REFUSED: dict[str, tuple[pd.DataFrame, dict[str, object], str]] = {
     "numbers of weeks": (
@@ -184,4 +184,4 @@ def test_few_columns_are_named() -> None:
         read(table)
     said = str(refused.value).splitlines()
     assert all(it.endswith("are: x, I0, I1, I2, I3 and 76 more") for it in said)
-    assert max(map(len, said)) < 240
+    assert max(map(len, said)) < 180
