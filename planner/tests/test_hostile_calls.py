@@ -14,7 +14,7 @@ import pandas as pd
 import pytest
 
 import crnplan as crn
-from crnplan.arguments import word_of
+from crnplan.options import word_of
 from crnplan.read.frames import TABLE
 from crnplan.vocabulary import NUMBER
 from planner.tests.test_call_words import FAST, MASTERS, SALES, WEEKS

@@ -22,7 +22,7 @@ OF_CALLS = (
 
 def within(table: str) -> list[Word]:
     """Returns the words of a table."""
-    return [option(f"{table}.{name}") for name in declared()[table]]
+    return [option(table, name) for name in declared()[table]]
 
 
 def test_each_word_is_used() -> None:
@@ -51,7 +51,7 @@ def test_options_of_a_command(
 
 def test_references() -> None:
     """Constants of the package stand for ends, choices and defaults, and are spelt in a help."""
-    assert option("call.period").kind.choices == ("day", "week", "month")
-    assert "left_out" in option("today.table").kind.choices
+    assert option("call", "period").kind.choices == ("day", "week", "month")
+    assert "left_out" in option("today", "table").kind.choices
     with pytest.raises(KeyError):
-        option("common.nothing")
+        option("common", "nothing")

@@ -4,14 +4,14 @@ from __future__ import annotations
 import functools
 import inspect
 import os
-from collections.abc import Callable, Iterable
+from collections.abc import Callable
 from pathlib import Path
 from typing import Any, TypeVar, cast
 
 from .errors import Refused, argument
-from .options import SEEN, declared, option
+from .options import SEEN, word_of
 from .toml.documents import shown
-from .vocabulary import FORM, TEXTS, UNNAMED, Kind, Word, read_text, several
+from .vocabulary import FORM, TEXTS, UNNAMED, Kind, read_text, several
 
 Call = TypeVar("Call", bound=Callable[..., Any])
 MOST_OF_NAME = 255  # bytes of the name of a file, on Linux
@@ -80,13 +80,6 @@ PICTURE = Kind(read_picture, metavar="FILE")
 SCHEDULER = Kind(read_scheduler)
 DOCUMENT = Kind(read_document)
 GENERATOR = Kind(read_generator)
-
-
-def word_of(name: str, tables: Iterable[str]) -> Word | None:
-    """Returns the word of an argument in the first of some tables of options.toml that has it; None if the call itself reads
-    it, or a class of words."""
-    table = next((table for table in tables if name in declared()[table]), None)
-    return option(f"{table}.{name}") if table else None
 
 
 def judged(*tables: str) -> Callable[[Call], Call]:

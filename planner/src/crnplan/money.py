@@ -201,12 +201,6 @@ def scaled_costs(costs: Mapping[str, Amount]) -> tuple[dict[str, int], Fraction]
     Each cost is an int, float, Decimal, Fraction or text, such as "12.50". The scale is 1 if that can be, or if all are
     whole. Raises Refused if no scale makes all costs whole and keeps them within their ranges.
     """
-    whole_costs = dict[str, int]()
-    for name, cost in costs.items():
-        if type(cost) is int and cost <= formats.limits("costs", name)[1]:
-            whole_costs[name] = cost
-    if len(whole_costs) == len(costs):
-        return whole_costs, Fraction(1)
     amounts = dict[str, Fraction]()
     for name, cost in costs.items():
         amount = exact(cost)

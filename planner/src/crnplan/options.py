@@ -5,7 +5,7 @@ import functools
 import pkgutil
 import re
 import tomllib
-from collections.abc import Sequence
+from collections.abc import Iterable, Sequence
 from dataclasses import replace
 from pathlib import Path
 from typing import Any
@@ -61,10 +61,9 @@ def kind_of(
 
 
 @functools.cache
-def option(place: str) -> Word:
-    """Returns the word at a place of options.toml, as `backtest.window`. What it refers to is imported now. Raises KeyError if
-    there is none."""
-    table, _, name = place.partition(".")
+def option(table: str, name: str) -> Word:
+    """Returns the word of a name in a table of options.toml. What it refers to is imported now. Raises KeyError if there is
+    none."""
     stated = declared()[table][name]
     if isinstance(stated, str):
         stated = {"kind": stated}
@@ -73,3 +72,12 @@ def option(place: str) -> Word:
     kind = kind_of(*(facts.pop(fact, "") for fact in ("kind", "choices", "range")))
     kind = replace(kind, metavar=facts.pop("metavar", kind.metavar))
     return Word(kind, **facts)
+
+
+def word_of(name: str, tables: Iterable[str]) -> Word | None:
+    """Returns the word of a name in the first of some tables of options.toml that has it; None if it is one of reading or
+    planning, or if the call itself reads it."""
+    for table in tables:
+        if name in declared().get(table, ()):
+            return option(table, name)
+    return None

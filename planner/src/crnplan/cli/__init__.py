@@ -26,7 +26,7 @@ from ..errors import CrnplanError, Failed, Refused
 from ..spelling import escaped, spelt, worded
 from ..store.files import faults_of
 from ..store.interrupts import heed_interrupt, heeding_interrupts
-from ..options import declared, option
+from ..options import word_of
 from ..vocabulary import Word, several, words_of
 
 # The threads of linear algebra gain nothing here. Beside other work they wait for one another, busily.
@@ -50,15 +50,13 @@ def options_of(command: str) -> list[Word]:
     """
     options = list[Word]()
     for name in COMMANDS[command]["options"]:
-        tables = [it for it in (command, "common") if name in declared().get(it, ())]
-        if "." in name:
-            options.append(option(name))
-        elif tables:
-            options.append(option(f"{tables[0]}.{name}"))
-        else:
+        *table, name = name.split(".")
+        word = word_of(name, table or (command, "common"))
+        if not word:
             word = known_words()[name]
             kind = replace(word.kind, read=several(str))
-            options.append(replace(word, kind=kind, default=None))
+            word = replace(word, kind=kind, default=None)
+        options.append(word)
     return options
 
 

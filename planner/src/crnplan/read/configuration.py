@@ -80,4 +80,4 @@ def made_from(kind: type[Made], tree: Mapping[str, Any]) -> Made:
     columns = {name: tree[name] for name in ROLES if name in tree}
     known = {**tree, COLUMNS: columns or None}
     words = words_in(kind).values()
-    return kind(**{word.name: known.get(word.key or "") for word in words})
+    return kind(**{word.name: known.get(word.key) for word in words})

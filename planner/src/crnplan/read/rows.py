@@ -181,12 +181,12 @@ def amount_reader(
     return reader.look(table.counts(role))
 
 
-def far_above(amounts: Numbers, times_of_few: int = TIMES_OF_FEW) -> int:
+def far_above(amounts: Numbers) -> int:
     """Returns how many amounts, at most MOST_FAR, are far above all others."""
     ranked = np.sort(amounts)[: -MOST_FAR - LEAST_OTHERS - 1 : -1]
     ranked = ranked[ranked > 0].tolist()
     for far, next_largest in enumerate(ranked[1 : 1 + MOST_FAR], 1):
-        times = TIMES_NEXT if len(ranked) - far >= LEAST_OTHERS else times_of_few
+        times = TIMES_NEXT if len(ranked) - far >= LEAST_OTHERS else TIMES_OF_FEW
         if ranked[far - 1] >= times * next_largest:
             return far
     return 0
