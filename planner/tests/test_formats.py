@@ -109,8 +109,8 @@ def test_columns_and_rows() -> None:
     }
     assert [*formats.COLUMNS.items()] == [*{**columns, "policy": "name"}.items()]
     assert f"{formats.HEADER}\n" in blocks_of(PAGE)
-    numbers = [name for name in columns if name != "policy"]
-    assert [*formats.WHOLE] == [name for name in numbers if columns[name] == "whole"]
+    whole = {name for name, kind in columns.items() if kind == "whole"}
+    assert {*formats.WHOLE} == whole - {"policy"}
     spelt = [
         fields.replace(" and four words", ", word, word, word, word")
         .replace("`", "")

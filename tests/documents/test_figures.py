@@ -35,8 +35,9 @@ def report_of(text: str) -> dict[str, dict[str, Any]]:
     for row in rows.values():
         row |= {
             name: Fraction(row[name])
-            for name in [*formats.FRACTIONS, "total", "diff_total"]
-            if row[name] != "-"
+            for name, kind in formats.COLUMNS.items()
+            if (kind == "fraction" or name in ("total", "diff_total"))
+            and row[name] != "-"
         }
     return rows
 
