@@ -72,14 +72,6 @@ class OnPast(NamedTuple):
         return 1 - float(np.interp(math.log(price), np.log(self.prices), self.unmet))
 
 
-def without_demand(read: Catalogued) -> Iterator[Item]:
-    """Yields the items in order by what decides with which others they are planned: without their demand."""
-    fields = "name", "holding", "backlog", "no_shortage", "price", "category", "past"
-    for cells in read.values(*fields):
-        facts = dict(zip(fields, cells))
-        yield Item(counts=(), leads=(), levels=None, setup=Fraction(0), **facts)
-
-
 def members_of(
     read: Catalogued, settings: Settings
 ) -> Iterator[tuple[str, str, float]]:
@@ -87,7 +79,11 @@ def members_of(
     weight costs to hold. Raises Refused if most of those for which a share is wanted have no price, by which they would
     weigh."""
     counts = Counter[bool]()
-    for item in without_demand(read):
+    # What decides with which others an item is planned: its demand need not be read.
+    fields = "name", "holding", "backlog", "no_shortage", "price", "category", "past"
+    for cells in read.values(*fields):
+        facts = dict(zip(fields, cells))
+        item = Item(counts=(), leads=(), levels=None, setup=Fraction(0), **facts)
         if item.past in UNORDERED or settings.named_group(item) is None:
             continue
         group = settings.group_of(item)

@@ -2,8 +2,9 @@
 from __future__ import annotations
 
 import dataclasses
+import statistics
 from collections import defaultdict
-from collections.abc import Iterator, Mapping, Sequence
+from collections.abc import Iterator, Mapping
 from dataclasses import dataclass
 from pathlib import Path
 from typing import Any
@@ -21,7 +22,7 @@ from ...store.means import Means
 from ...store.stored import Store
 from ..aims import Aims
 from ..correction import LEAST_ITEMS, OF_FILLS, tried_on, ways_of
-from ..how import Settings
+from ..how import LEARNED, Settings
 from ..learned import following_of, learned_of, seasons_of
 from ..prices import REST, weight_of
 from ..seasons import Seasons
@@ -82,17 +83,8 @@ def uncorrected(settings: Settings) -> Settings:
     """Returns settings by which plans are tested: what a catalogue has learned of fill rates, prices and seasons is from
     all its periods, also from those on which they are tested. So each item has its own fill rate.
     """
-    return dataclasses.replace(
-        settings,
-        correct=False,
-        aims=None,
-        overruns=None,
-        together={},
-        at_least=None,
-        prices=None,
-        seasons=None,
-        following=None,
-    )
+    own: dict[str, Any] = {"correct": False, "together": {}, "at_least": None}
+    return dataclasses.replace(settings, **own, **dict.fromkeys(LEARNED))
 
 
 @dataclass(frozen=True)
@@ -176,22 +168,15 @@ def wanted_shares(read: Catalogued) -> dict[str, float]:
         weight = sum(counts) / max(1, len(counts)) * weight_of(item)
         is_one = item.fill is not None and item.backlog is None
         if weight and is_one and item.past not in UNORDERED:
-            wanted[item.category].append((weight, float(item.fill or 0)))
+            wanted[item.category].append((float(item.fill or 0), weight))
     for name in [name for name in wanted if len(wanted[name]) < LEAST_GROUP]:
         if name != REST:
             wanted[REST] += wanted.pop(name)
     return {
-        name: round(mean_of(wanted[name]), DIGITS)
+        name: round(statistics.fmean(*zip(*wanted[name])), DIGITS)
         for name in sorted(wanted)
         if len(wanted[name]) >= LEAST_GROUP
     }
-
-
-def mean_of(pairs: Sequence[tuple[float, float]]) -> float:
-    """Returns the mean of figures, each of which has its weight before it."""
-    return sum(weight * figure for weight, figure in pairs) / sum(
-        weight for weight, _ in pairs
-    )
 
 
 @dataclass(frozen=True)
