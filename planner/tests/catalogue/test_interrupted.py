@@ -82,6 +82,12 @@ def whole(
     return shared(tmp_path_factory, "few", make) / "plan"
 
 
+def running(command: Sequence[str | Path], program: Path) -> list[str]:
+    """Returns a command with the program that it runs, if it runs one: a curve needs none."""
+    words = [*map(str, command)]
+    return words + ["--program", str(program)] * (words[0] != "curve")
+
+
 @pytest.fixture
 def holding(folder: Path, program: Path) -> Path:
     """Returns a program that waits after some runs."""
@@ -101,7 +107,7 @@ def start(folder: Path, holding: Path) -> Iterator[Start]:
         command: Sequence[str] = PLAN,
         before: Callable[[], None] = heed_interrupts,
     ) -> Process:
-        words = [*command, "--program", holding, "--jobs", str(jobs)]
+        words = [*running(command, holding), "--jobs", str(jobs)]
         begun.append(
             subprocess.Popen(
                 [sys.executable, "-m", "crnplan", *words],
@@ -127,7 +133,7 @@ def go_on(folder: Path, crnplan: Command, holding: Path) -> Callable[..., Answer
 
     def run(command: Sequence[str | Path] = PLAN, jobs: int = 1) -> Answer:
         (folder / "go_on").touch()
-        told = crnplan(*command, "--program", holding, "--jobs", str(jobs))
+        told = crnplan(*running(command, holding), "--jobs", str(jobs))
         assert told.status == 0, told.errors
         return told
 
@@ -443,9 +449,9 @@ def test_a_cluster_that_loses_a_worker(
     of its curve, which the other worker draws."""
     cluster = shared_cluster
     cluster.restore(folder)
-    common = "--program", str(holding), "--cluster", cluster.address
     for command, file, names in KILLED.values():
-        cluster.start("driver", "-m", "crnplan", *command, *common)
+        words = *running(command, holding), "--cluster", cluster.address
+        cluster.start("driver", "-m", "crnplan", *words)
         cluster.wait_until("the first batch", lambda: kept(folder, file) >= 1, "driver")
         cluster.end("leaves")
         assert kept(folder) < FEW or file != ANSWERS
