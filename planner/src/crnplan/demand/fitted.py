@@ -4,7 +4,7 @@ from __future__ import annotations
 from collections.abc import Callable, Iterable, Iterator, Mapping, Sequence
 from dataclasses import dataclass, field
 from functools import cached_property
-from typing import Any, cast
+from typing import Any
 
 import numpy as np
 
@@ -25,9 +25,6 @@ LEAST_MEAN, LEAST_VARIANCE = (
     0.97,
     0.8,
 )  # of a law of demand, beside those of what was seen; less is named
-# How much dearer than the best policy the chosen one is after so many lead times, in percent, if the demand is known:
-# the least and the most of the cases of the study planner/studies/laws_leads.py.
-DOUBT = {5: (2.3, 4.4), 10: (1.0, 3.0), 20: (0.5, 1.9)}
 
 
 @dataclass(frozen=True)
@@ -223,28 +220,22 @@ def numbers_of(
 ) -> list[int]:
     """Returns the numbers of `placed_numbers`.
 
-    `wrong` says by a number and the largest one why a scenario can't have it; it is nothing between two numbers that a
-    scenario can have. Raises RefusedFaults with the places of all such numbers, and as `placed_numbers` does.
+    `wrong` says by a number and the largest one why a scenario can't have it; nothing if it can. Raises RefusedFaults with
+    the places of all such numbers, and as `placed_numbers` does.
     """
     known = placed_numbers(observed, what, may_lack)
-    numbers = [*known.values()]
-    most = max(numbers, default=0)
-    if wrong(most, most) or wrong(min(numbers), most):
-        faults = []
-        for place, number in known.items():
-            reason = wrong(number, most)
-            if reason:
-                faults.append(Fault(f"{what}: entry {place + 1}, {number}, {reason}"))
-        raise refused_numbers(faults)
-    return numbers
-
-
-def refused_numbers(faults: Sequence[Fault]) -> RefusedFaults:
-    """Returns the error of numbers with faults, which names the first ones."""
-    lines = [fault.message for fault in faults[:MOST_NAMED]]
-    if len(faults) > MOST_NAMED:
-        lines.append(f"and {len(faults) - MOST_NAMED:,} more")
-    return RefusedFaults(faults, "\n".join(lines))
+    most = max(known.values())
+    faults = []
+    for place, number in known.items():
+        reason = wrong(number, most)
+        if reason:
+            faults.append(Fault(f"{what}: entry {place + 1}, {number}, {reason}"))
+    if faults:
+        lines = [fault.message for fault in faults[:MOST_NAMED]]
+        if len(faults) > MOST_NAMED:
+            lines.append(f"and {len(faults) - MOST_NAMED:,} more")
+        raise RefusedFaults(faults, "\n".join(lines))
+    return [*known.values()]
 
 
 def placed_numbers(
@@ -271,7 +262,7 @@ def placed_numbers(
     return known
 
 
-def _dense(observed: Any, what: str) -> Iterable[Any]:
+def _dense(observed: Any, what: str) -> Any:
     index: Any = getattr(observed, "index", None)
     kind = type(index).__name__
     if isinstance(observed, Mapping) or not hasattr(observed, "__iter__"):
@@ -281,9 +272,8 @@ def _dense(observed: Any, what: str) -> Iterable[Any]:
         )
     if kind not in ("PeriodIndex", "DatetimeIndex"):
         is_whole = isinstance(observed, np.ndarray) and observed.dtype.kind in "iu"
-        return cast(
-            Iterable[Any], observed.tolist() if is_whole else observed
-        )  # Numbers of Python are read faster.
+        # Numbers of Python are read faster.
+        return observed.tolist() if is_whole else observed
     if not index.is_unique or not index.is_monotonic_increasing:
         raise Refused(
             f"{what}: its dates stand twice or are not in order",
@@ -293,7 +283,7 @@ def _dense(observed: Any, what: str) -> Iterable[Any]:
         import pandas as pd
 
         every = pd.period_range(index[0], index[-1]) if len(index) else index
-        return cast(Iterable[Any], observed.reindex(every, fill_value=0))
+        return observed.reindex(every, fill_value=0)
     if (
         len(index) > 1
         and index.freq is None
@@ -304,7 +294,7 @@ def _dense(observed: Any, what: str) -> Iterable[Any]:
             "sum it by period, as with "
             'resample("W").sum(), so that periods without demand count 0',
         )
-    return cast(Iterable[Any], observed)
+    return observed
 
 
 def fit_words(law: FittedLaw) -> Iterator[str]:
@@ -320,10 +310,6 @@ def fit_words(law: FittedLaw) -> Iterator[str]:
             "one later"
         )
     if law.is_of_leads:
-        yield "by a study, a policy chosen after few lead times costs more than the best: " + ", ".join(
-            f"{least:g} to {most:g}% after {count}"
-            for count, (least, most) in DOUBT.items()
-        )
         return
     if borrowed:
         yield from _words_of_borrowed(borrowed)

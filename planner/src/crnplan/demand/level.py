@@ -90,11 +90,11 @@ def weight_of(items: Sequence[BlockSums]) -> float:
         products[: len(item.products)] += item.products
         squares[: len(item.squares)] += item.squares
     whole = squares.sum()
-    slope = float(products.sum() / whole) if whole else 0.0
+    if not whole:
+        return 0.0
+    slope = float(products.sum() / whole)
     far = products - slope * squares
-    square = (
-        float((far**2).sum() / whole**2 * blocks / (blocks - 1)) if whole else 0.0
-    )
+    square = float((far**2).sum() / whole**2 * blocks / (blocks - 1))
     if (
         slope <= 0
         # The error is 0 if all blocks agree.

@@ -47,8 +47,8 @@ def autocorrelations(far: Floats, places: Whole) -> Floats:
     for lag in range(1, LAGS + 1):
         pairs = seen[lag:] @ seen[:-lag]
         share = (len(far) - lag) / pairs if pairs else 0.0
-        products.append(share * np.einsum("i,i", spread[lag:], spread[:-lag]))
-    return np.asarray(products / np.einsum("i,i", far, far))
+        products.append(share * (spread[lag:] @ spread[:-lag]))
+    return np.asarray(products / (far @ far))
 
 
 def step_weights(size: int) -> Floats:

@@ -16,7 +16,6 @@ from typing import NamedTuple
 import numpy as np
 
 from ..chances import Floats, Whole
-from ..formats import MOST_DEMAND
 
 # A pack is recognised after so many demands above 0, if they all have its divisor by luck with a chance of 2^-8.
 PACKED = 3
@@ -35,11 +34,7 @@ class Sample:
     @classmethod
     def of(cls, numbers: Iterable[int]) -> Sample:
         seen = np.fromiter(numbers, np.int64)
-        if seen.max(initial=0) > MOST_DEMAND:
-            return cls(*np.unique(seen, return_counts=True))
-        counts = np.bincount(seen)  # which takes half the time
-        values = np.flatnonzero(counts)
-        return cls(values, counts[values])
+        return cls(*np.unique(seen, return_counts=True))
 
     @cached_property
     def size(self) -> int:
