@@ -324,10 +324,8 @@ class Reader:
         remarks = tuple(self._remarks(item, code, is_late, netted))
         if stated:
             remarks = (stated.remark, *remarks)
-            self.numbers["stated"] += 1
-            self.numbers["bare"] += is_bare
-        item = replace(item, remarks=remarks)
-        return overridden(item, item.override)
+            self.numbers.update(stated=1, bare=is_bare)
+        return overridden(replace(item, remarks=remarks), item.override)
 
     def _begins_late(self, first: int, master: Master) -> bool:
         """Returns whether an item's record begins after that of the table, without a word of its master."""
