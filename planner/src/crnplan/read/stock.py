@@ -1,6 +1,6 @@
 """Reads today's tables: stock, what is owed to customers, what is on order or placed since, and what a planner decides.
 
-That are quantities, ordered in place of what the plan says, and overrides of the plan itself.
+Quantities are ordered in place of what the plan says, and overrides change the plan itself.
 """
 from __future__ import annotations
 
