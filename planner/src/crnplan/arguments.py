@@ -9,7 +9,7 @@ from pathlib import Path
 from typing import Any, TypeVar, cast
 
 from .errors import Refused, argument
-from .options import SEEN, word_of
+from .options import SEEN, resolved, word_of
 from .toml.documents import shown
 from .vocabulary import FORM, TEXTS, UNNAMED, Kind, read_text, several
 
@@ -42,6 +42,11 @@ def read_picture(value: Any) -> Path:
     if not path.name.lower().endswith(SVG):
         raise Refused(f"{shown(value)} does not end with {SVG}", "name such a file")
     return path
+
+
+def read_share(value: Any) -> float:
+    # What reads amounts takes long to load, and few calls have a share.
+    return float(resolved("{read.amounts.share_of}")(value))
 
 
 def read_scheduler(value: Any) -> Any:
@@ -77,6 +82,7 @@ PATH = Kind(read_path, metavar="PATH")
 FOLDER = Kind(read_folder, metavar="FOLDER")
 FILE = Kind(read_file, metavar="FILE")
 PICTURE = Kind(read_picture, metavar="FILE")
+SHARE = Kind(read_share, metavar="SHARE")
 SCHEDULER = Kind(read_scheduler)
 DOCUMENT = Kind(read_document)
 GENERATOR = Kind(read_generator)

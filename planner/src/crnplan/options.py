@@ -35,11 +35,6 @@ def resolved(value: Any) -> Any:
     return pkgutil.resolve_name(f"{__package__}.{reference[1]}") if reference else value
 
 
-def later(read: str, **facts: str) -> Kind:
-    """Returns a kind whose values are read by a kind of a module that takes long to import, and is imported then."""
-    return Kind(lambda value: resolved(read).read(value), **facts)
-
-
 def instance_of(kind: type) -> Kind:
     """Returns the kind of a value of a class."""
     name = kind.__name__
@@ -61,8 +56,6 @@ def kind_of(
         return choice(*choices, metavar=f"[{'|'.join(choices)}]")
     kind = kind or ("whole" if range else "text")
     known = resolved(declared()[KINDS].get(kind, kind))
-    if isinstance(known, dict):
-        known = later(**known)
     found: Kind = instance_of(known) if isinstance(known, type) else known
     return within(found, *range) if range else found
 

@@ -8,6 +8,7 @@ from dataclasses import dataclass
 from fractions import Fraction
 from typing import Any
 
+from ..arguments import read_share
 from ..demand import AUTO, SEASON_WAYS
 from ..demand.families import METHODS
 from ..demand.index import Index
@@ -15,7 +16,6 @@ from ..demand.learning import Prior
 from ..errors import Refused, argument
 from ..formats import MOST_ITEMS, MOST_PERIODS, MOST_REPLICATIONS, MOST_WEIGHT
 from ..money import whole_in
-from ..read.amounts import share_of
 from ..read.bounds import OrderBounds
 from ..read.defaults import SHARE, shares_of
 from ..read.item import BORROW, PLANNED, WEIGHED, Item
@@ -49,11 +49,6 @@ VERSION = 11  # Answers of others are not used again.
 NONE, CLASS, ALL = BORROW
 
 
-def part_of(value: Any) -> float:
-    """Returns a share as a float. Raises Refused."""
-    return float(share_of(value))
-
-
 def parts_of(value: Any) -> dict[str, float]:
     """Returns shares by class as floats. Raises Refused."""
     return {group: float(share) for group, share in shares_of(value).items()}
@@ -64,7 +59,7 @@ def seed_of(value: Any) -> str:
     return value if isinstance(value, str) else str(whole_in(value))
 
 
-PART = Kind(part_of, SHARE.type, SHARE.metavar)
+PART = Kind(read_share, SHARE.type, SHARE.metavar)
 
 
 @documented
