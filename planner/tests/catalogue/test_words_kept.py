@@ -40,7 +40,7 @@ FILES = "demand.csv", "items.csv", "orders.csv", "--anyway"
 OTHERS = {
     *("tables", "stated", "config", "after"),
     *("out", "only_read", "rejects"),
-    *("anyway", "again", "jobs", "cluster", "program"),
+    *("anyway", "learn_again", "jobs", "cluster", "program"),
 }
 CASES, KEYS = (
     tomllib.loads(Path(__file__).with_name(f"{name}.toml").read_text("utf-8"))
