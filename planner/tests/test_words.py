@@ -3,7 +3,7 @@ from __future__ import annotations
 
 import pytest
 
-from crnplan.words import _Known, _policy_today
+from crnplan.sentences import _Known, _policy_today
 
 
 def test_facts_that_are_not_there() -> None:

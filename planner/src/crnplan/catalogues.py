@@ -40,7 +40,7 @@ from .read.configuration import merged, told_of
 from .remarks import Remark
 from .table import Json
 from .vocabulary import Kind
-from .words import advised
+from .sentences import advised
 
 if TYPE_CHECKING:
     import pandas as pd

@@ -11,7 +11,7 @@ from typing import Any, ClassVar
 
 from .remarks import Remark
 from .spelling import argument as argument, worded
-from .words import message
+from .sentences import message
 
 
 class CrnplanError(Exception):

@@ -42,7 +42,7 @@ from .read.opening import Table
 from .remarks import Remark
 from .runs import Scenario
 from .table import DataTable, Json, Result
-from .words import counted
+from .sentences import counted
 
 if TYPE_CHECKING:
     import pandas as pd

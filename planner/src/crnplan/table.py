@@ -18,7 +18,7 @@ from typing import TYPE_CHECKING, Any, ClassVar, Literal
 
 from .errors import Refused
 from .money import Currency
-from .words import counted
+from .sentences import counted
 
 if TYPE_CHECKING:
     import pandas as pd

@@ -42,7 +42,7 @@ from crnplan.remarks import Remark
 from crnplan.store.files import own_folder
 from crnplan.store.means import Means
 from crnplan.store.stored import Store
-from crnplan.words import sentence
+from crnplan.sentences import sentence
 from planner.tests.backtest.test_tested_again import WAYS
 from planner.tests.plan.items import item_of, tables_of
 

@@ -30,7 +30,7 @@ from crnplan.curve.parts import Point
 from crnplan.plan.catalogue import ANSWERS, planned_folder
 from crnplan.plan.question import Terms
 from crnplan.read.catalogue_reading import READ
-from crnplan.words import advice, sentence
+from crnplan.sentences import advice, sentence
 from planner.tests.catalogue.conftest import FILES, REFUSED, SETTINGS, leave_few
 from planner.tests.catalogue.made import NO_PLAN, TODAY, Made
 from planner.tests.conftest import Command, shared

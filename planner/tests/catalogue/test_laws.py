@@ -42,7 +42,7 @@ from crnplan.read.parts import ITEM
 from crnplan.store.stored import Store
 from crnplan.theory.long_run import NO_POLICY
 from crnplan.theory.many_laws import Promises
-from crnplan.words import sentence
+from crnplan.sentences import sentence
 from planner.tests.theory.long_run_costs import fills_of, shortfall_of
 
 WEEKS, ITEMS = 40, 120

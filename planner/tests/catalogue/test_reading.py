@@ -23,7 +23,7 @@ from crnplan.read.item import Item
 from crnplan.read.items import Reading
 from crnplan.read.tables import OPEN, PLACES, USED, TableReader
 from crnplan.catalogues import Catalogue, read_catalogue
-from crnplan.words import sentence
+from crnplan.sentences import sentence
 from planner.tests.catalogue.audit import Audit, audit
 from planner.tests.catalogue.conftest import FILES
 from planner.tests.catalogue.made import (

@@ -15,7 +15,7 @@ from crnplan.read.dates import period_of
 from crnplan.read.observed import Record, record_of
 from crnplan.read.rows import far_above
 from crnplan.catalogues import Catalogue
-from crnplan.words import sentence
+from crnplan.sentences import sentence
 from planner.tests.read.catalogues import MASTER, MASTERS, TODAY, items_of, read_text
 
 CASES = tomllib.loads(Path(__file__).with_name("reading.toml").read_text("utf-8"))

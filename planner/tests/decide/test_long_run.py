@@ -21,7 +21,7 @@ from crnplan.policies import Policy
 from crnplan.money import Costs
 from crnplan.runs import Scenario
 from crnplan.theory.lattice import NoTheory
-from crnplan.words import sentence
+from crnplan.sentences import sentence
 from planner.studies.long_run import (
     SEEDS,
     SMALL,

@@ -21,7 +21,7 @@ from crnplan.demand.learning import Prior, learn
 from crnplan.demand.posterior import allowed_laws
 from crnplan.demand.sample import Sample
 from crnplan.errors import Refused, RefusedFaults
-from crnplan.words import sentence
+from crnplan.sentences import sentence
 from planner.tests.demand.made import (
     RARE,
     TRUE_MEAN,

@@ -22,7 +22,7 @@ from crnplan.demand.permutation import drawn_orders
 from crnplan.errors import Refused
 from crnplan.read.dates import period_name, period_of
 from crnplan.remarks import Remark
-from crnplan.words import advised, sentence
+from crnplan.sentences import advised, sentence
 
 CASES = tomllib.loads(Path(__file__).with_name("checks.toml").read_text("utf-8"))
 RANDOM = np.random.default_rng(8)

@@ -11,13 +11,13 @@ from pathlib import Path
 import pytest
 import xlsxwriter
 
-from crnplan import words
+from crnplan import sentences
 from crnplan.desk import kept
 from crnplan.desk.language import words_of
 from planner.tests.desk import exports, monday
 from planner.tests.desk.conftest import Planner, file_of
 
-RECORD_WORDS = Path(words.__file__).with_name("record_words.toml")
+RECORD_WORDS = Path(sentences.__file__).with_name("record_sentences.toml")
 # The kinds of the files of each company, by the order of their names.
 WIDE = {"articles.xlsx": "items", "commandes.csv": "on_order", "ventes.xlsx": "demand"}
 WAREHOUSES = {

@@ -15,7 +15,7 @@ from crnplan.plan import item
 from crnplan.theory.lattice import NoTheory
 from crnplan.theory.many_laws import figures_of_laws
 from crnplan.theory.suggestions import suggestions_of
-from crnplan.words import sentence
+from crnplan.sentences import sentence
 from planner.tests.conftest import Command
 from planner.tests.item.conftest import Alone, page_of
 from planner.tests.planned_tables import runs_of

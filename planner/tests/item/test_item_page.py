@@ -15,7 +15,7 @@ import pytest
 import crnplan as crn
 from crnplan.demand.fitted import Diagnostics, FittedLaw
 from crnplan.show.item_page import LAW_COLUMNS, laws_of
-from crnplan.show.law_words import law_words
+from crnplan.show.law_names import law_name
 from crnplan.plan.how import Settings
 from crnplan.plan.question import question_of
 from crnplan.table import DataTable
@@ -243,7 +243,7 @@ def test_words(family: str, method: str, facts: dict[str, Any], words: str) -> N
     """A law is named by how it was fitted, or by the history."""
     law = crn.Law((0, 1), (1, 1))
     fitted = FittedLaw.made(law, family, Diagnostics(law, method, **facts))
-    assert law_words(fitted) == words
+    assert law_name(fitted) == words
 
 
 @pytest.mark.parametrize("numbers", [ERRATIC, TWO_SIZES], ids=["erratic", "two sizes"])
@@ -258,7 +258,7 @@ def test_figures(numbers: list[int], method: str) -> None:
     its = crn.fit_demand(numbers, method=method)
     names, samples = ["this history"], [numbers]
     if its.family != "empirical":
-        names, samples = ["what was seen", law_words(its)], [
+        names, samples = ["what was seen", law_name(its)], [
             numbers,
             np.repeat(its.values, its.weights),
         ]

@@ -28,7 +28,7 @@ from crnplan.read.item import Item
 from crnplan.remarks import Value
 from crnplan.theory.feasible import Feasible
 from crnplan.theory.many_laws import Promises
-from crnplan.words import sentence
+from crnplan.sentences import sentence
 from planner.tests.conftest import Command, cases_beside
 from planner.tests.plan.items import alone
 from planner.tests.planned_tables import whole_rows

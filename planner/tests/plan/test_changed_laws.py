@@ -9,7 +9,7 @@ from hypothesis import given, strategies as st
 from crnplan.law import Law
 from crnplan.plan.changed_laws import changed_demand, law_cases
 from crnplan.remarks import Remark
-from crnplan.words import sentence
+from crnplan.sentences import sentence
 
 DEMAND, LEAD = Law((1, 2, 3, 4), (1, 2, 2, 1)), Law((1,), (1,))
 # Demand 10% up and down, by hand. For example 3 becomes 3.3: 3 with weight 2 * 7 and 4 with weight 2 * 3.

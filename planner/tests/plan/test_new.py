@@ -25,7 +25,7 @@ from crnplan.plan.seasons import Seasons
 from crnplan.read.item import ENDED, NEW, NO_DEMAND, Item
 from crnplan.remarks import Remark
 from crnplan.theory.lattice import NoTheory
-from crnplan.words import sentence
+from crnplan.sentences import sentence
 from planner.tests.plan.items import SHORT, item_of
 from planner.tests.theory.long_run_costs import fills_of, shortfall_of
 

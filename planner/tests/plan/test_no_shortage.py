@@ -19,7 +19,7 @@ from crnplan.plan.question import Question, question_of
 from crnplan.plan.what_ifs import cases_of
 from crnplan.read.bounds import OrderBounds
 from crnplan.remarks import Remark
-from crnplan.words import sentence
+from crnplan.sentences import sentence
 from planner.tests.plan.items import SHORT, alone, item_of, tables_of
 from planner.tests.planned_tables import whole_frame
 

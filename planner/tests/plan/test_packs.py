@@ -19,7 +19,7 @@ from crnplan.plan.binding import remarks_of_packs
 from crnplan.policies import Policy
 from crnplan.read.bounds import OrderBounds
 from crnplan.show.item_page import ItemWords, item_page
-from crnplan.words import sentence
+from crnplan.sentences import sentence
 from planner.tests.plan.items import alone
 from planner.tests.plan.test_bounds import FILL, SEEN, answer_of, asked
 from planner.tests.plan.test_today import standing_of

@@ -20,7 +20,7 @@ from crnplan.read.item import PHASE_OUT, STOPPED
 from crnplan.read.quantities import Quantity
 from crnplan.remarks import Remark
 from crnplan.show.today_tables import OrdersToday
-from crnplan.words import sentence
+from crnplan.sentences import sentence
 from planner.tests.conftest import Command, cases_beside
 from planner.tests.plan.test_orders import today_of
 from planner.tests.plan.test_today import FRIDAY, facts_of, standing_of

@@ -22,7 +22,7 @@ from crnplan.plan.one import plan_one
 from crnplan.plan.question import Levels, Question, question_of
 from crnplan.demand.learning import Prior
 from crnplan.read.bounds import OrderBounds
-from crnplan.words import sentence
+from crnplan.sentences import sentence
 from planner.tests.plan.items import SHORT, alone, item_of, tables_of
 from planner.tests.plan.test_seasons import answered as in_season
 from planner.tests.planned_tables import whole_frame

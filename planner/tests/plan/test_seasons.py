@@ -35,7 +35,7 @@ from crnplan.plan.seasons import (
 )
 from crnplan.read.dates import period_of
 from crnplan.read.item import NEW, Item
-from crnplan.words import sentence
+from crnplan.sentences import sentence
 from crnplan.store.trees import value_of
 from planner.tests.plan.items import alone, item_of
 

@@ -22,7 +22,7 @@ from crnplan.read.dates import period_of
 from crnplan.read.item import Item
 from crnplan.show.item_page import laws_of
 from crnplan.show.item_plots import history_plot, laws_drawn
-from crnplan.words import sentence
+from crnplan.sentences import sentence
 from planner.tests.plan.items import alone, item_of
 from planner.tests.plan.test_seasons import year_by_hand
 from planner.tests.show.made_catalogue import made_pair

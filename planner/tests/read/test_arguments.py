@@ -11,7 +11,7 @@ import pandas as pd
 import pytest
 
 import crnplan as crn
-from crnplan import words
+from crnplan import sentences
 from crnplan.errors import Refused, argument
 from crnplan.spelling import as_python
 
@@ -88,7 +88,10 @@ def test_rejects_in_a_call_and_in_a_command(
 
 def test_no_code_is_said_twice() -> None:
     """Both tables of words, and the words that functions make, have each code once: none hides another."""
-    tables = [words._templates(file) for file in ("words.toml", "record_words.toml")]
+    tables = [
+        sentences._templates(file)
+        for file in ("sentences.toml", "record_sentences.toml")
+    ]
     made = {
         code: pair
         for code, pair in words.WORDS.items()

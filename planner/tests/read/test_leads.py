@@ -15,7 +15,7 @@ import crnplan as crn
 from crnplan.show.lateness import lateness_of
 from crnplan.read.leads import leads_from
 from crnplan.catalogues import read_catalogue
-from crnplan.words import sentence
+from crnplan.sentences import sentence
 from planner.tests.conftest import Command
 from planner.tests.read.catalogues import items_of
 

@@ -12,7 +12,7 @@ from crnplan.read.marks import Condition, conditions_of, use_of
 from crnplan.read.items import Reading
 from crnplan.read.stock import Holdings, read_holdings
 from crnplan.catalogues import Catalogue
-from crnplan.words import advised, sentence
+from crnplan.sentences import advised, sentence
 from planner.tests.read.catalogues import cases_of, items_of, read_text
 
 CASES = cases_of("marks")

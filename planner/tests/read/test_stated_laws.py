@@ -15,7 +15,7 @@ from scipy import stats
 import crnplan as crn
 from crnplan.read.item import STATED
 from crnplan.read.law_forms import law_of_moments, law_of_quantiles, moments_of_paths
-from crnplan.words import sentence
+from crnplan.sentences import sentence
 from planner.tests.conftest import Command
 from planner.tests.read.catalogues import (
     MASTER,

@@ -15,7 +15,7 @@ from crnplan.read.items import Reading
 from crnplan.read.quantities import Quantity
 from crnplan.read.stock import KINDS, Arrival, Holdings, OnHand, read_holdings
 from crnplan.catalogues import read_catalogue
-from crnplan.words import sentence
+from crnplan.sentences import sentence
 from planner.tests.read.catalogues import (
     MASTER,
     TODAY,

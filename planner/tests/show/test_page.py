@@ -17,7 +17,7 @@ from crnplan.demand.borrowing import fit_demand
 from crnplan.read.item import Item
 from crnplan.curve.pictures import curve_ends
 from crnplan.show.item_plots import history_plot
-from crnplan.show.law_words import source_words
+from crnplan.show.law_names import source_words
 from crnplan.drawing import rendering
 from crnplan.drawing.plots import UNITS, Scale, round_numbers
 from crnplan.drawing.rendering import rendered, templates

@@ -167,7 +167,7 @@ def test_what_is_known_of_a_stock_is_added_up() -> None:
     item, _ = made_pair(random.Random(1), "it")
     known = replace(item, past=NO_DEMAND, price=Fraction(3), stock=Fraction(4))
     items = known, replace(known, stock=Fraction(5)), replace(known, price=None)
-    module = templates(False).get_template("stock_words.txt").module
+    module = templates(False).get_template("stock_text.txt").module
     worth = getattr(module, "worth")
 
     def said(*some: Item) -> str:

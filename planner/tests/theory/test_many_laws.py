@@ -24,7 +24,7 @@ from crnplan.theory.suggestions import (
     chosen_policies,
     suggestions_of,
 )
-from crnplan.words import sentence
+from crnplan.sentences import sentence
 from planner.tests.theory.chain import by_chain
 from planner.tests.theory.long_run_costs import costs_of, fills_of, shortfall_of
 from planner.tests.theory.scenarios import Weights, scenario_of, table

@@ -17,7 +17,7 @@ from ..read.catalogue_reading import CATALOGUE, read_into
 from ..read.file_kinds import TESTED
 from .catalogues import files_said
 from .keys import words_of
-from .words import command
+from .commands import command
 
 
 @command()

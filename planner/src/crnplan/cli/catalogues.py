@@ -32,7 +32,7 @@ from ..read.overriding import set_overrides
 from ..read.stock import OVERRIDES
 from . import note
 from .keys import words_of
-from .words import command
+from .commands import command
 
 # So many reasons are named on the terminal.
 MOST_REASONS = 10

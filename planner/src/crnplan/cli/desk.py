@@ -3,7 +3,7 @@ from __future__ import annotations
 
 from pathlib import Path
 
-from .words import command
+from .commands import command
 
 
 @command()

@@ -16,7 +16,7 @@ from ..plan.settings import read_config
 from ..read.stock import KINDS
 from .catalogues import status_of
 from .keys import words_of
-from .words import command
+from .commands import command
 
 
 def orders_by(

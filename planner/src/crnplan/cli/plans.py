@@ -5,7 +5,7 @@ from pathlib import Path
 from typing import Any
 
 import crnplan as crn
-from .words import command
+from .commands import command
 
 
 @command()

@@ -17,7 +17,7 @@ from ..errors import RefusedFaults
 from ..store.digests import sha256
 from ..named_policies import read_policies
 from ..toml.documents import places_of
-from .words import command, refuse_words, show
+from .commands import command, refuse_words, show
 
 if TYPE_CHECKING:
     from ..crnsim.report import ReportRow

@@ -25,7 +25,7 @@ from ..read.catalogue_reading import CATALOGUE
 from ..store.stored import Store
 from ..table import DataTable, Json, Result, aligned
 from ..theory.levels import NEAR
-from ..words import PREMISE, advised, sentence
+from ..sentences import PREMISE, advised, sentence
 from .budget import Budget, OffCurve, chosen_by, gap_of, with_more_orders
 from .exchange import Items
 from .gathered import Gathered, gather

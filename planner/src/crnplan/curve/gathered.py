@@ -30,7 +30,7 @@ from ..plan.question import terms_of
 from ..read.item import Item
 from ..remarks import Remark
 from ..store.stored import NamedDigest, Store
-from ..words import advice, sentence
+from ..sentences import advice, sentence
 from ..store.work import Known, Work
 from .candidates import VERSION, Candidates, candidates_of
 from .exchange import Items

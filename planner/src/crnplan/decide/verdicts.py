@@ -21,7 +21,7 @@ from ..crnsim.report import ReportRow
 from ..remarks import Remark
 from ..scenario import BY_ITS_LAWS
 from ..table import DataTable, Json, Result, names_of
-from ..words import sentence
+from ..sentences import sentence
 
 Ends = tuple[float, float] | tuple[None, None]
 FEWEST_ORDERS = 2  # of the rarer policy of a comparison, in all replications

@@ -11,7 +11,7 @@ from ..arguments import judged
 from ..money import Number
 from ..read.quiet import chance_of_quiet, quiet_periods
 from ..remarks import Remark, Value
-from ..words import advised, sentence
+from ..sentences import advised, sentence
 from .fitted import placed_numbers
 from .order_tests import (
     FALSE_ALARMS,

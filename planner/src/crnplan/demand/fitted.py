@@ -14,7 +14,7 @@ from ..law import Law
 from ..money import is_missing, whole
 from ..read.item import STATED
 from ..remarks import Remark
-from ..words import counted, sentence
+from ..sentences import counted, sentence
 from . import EMPIRICAL, LEAST_DEMANDS
 from .sample import Shares
 

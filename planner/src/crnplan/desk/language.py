@@ -7,7 +7,7 @@ from collections.abc import Mapping
 from pathlib import Path
 from typing import Any
 
-TABLES = Path(__file__).with_name("words")
+TABLES = Path(__file__).with_name("texts")
 ENGLISH = "en"
 LANGUAGES = sorted(path.stem for path in TABLES.glob("*.toml"))
 

@@ -13,7 +13,7 @@ from .. import __version__
 from ..store.caches import cache_folder
 from ..store.digests import sha256
 from ..money import Currency
-from ..words import PREMISE, advised, counted, sentence
+from ..sentences import PREMISE, advised, counted, sentence
 
 if TYPE_CHECKING:
     import jinja2

@@ -24,7 +24,7 @@ from ..remarks import Remark
 from ..store.stored import Damaged, Store, reading
 from ..store.trees import value_of
 from ..table import Column, DataTable
-from ..words import advice, sentence
+from ..sentences import advice, sentence
 from ..store.work import Work
 from .after import (
     CHANGES,

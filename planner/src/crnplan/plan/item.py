@@ -27,7 +27,7 @@ from ..theory.lattice import NoTheory
 from ..theory.long_run import Candidate, LongRun
 from ..theory.many_laws import CONFIDENCE, Promises, figures_of_laws
 from ..theory.suggestions import FILLS, SuggestedPolicies, add_fills, chosen_policies
-from ..words import sentence
+from ..sentences import sentence
 from .answer import ALONE, CHOSEN, THEORY, TODAY, Answer, Figures
 from .checked_run import RunSample
 from .choice import LAWS, allowed_by, choice_of

@@ -25,7 +25,7 @@ from ..money import Costs
 from ..runs import Scenario
 from ..theory.lattice import lattice_of, shape_of, theory_on
 from ..theory.long_run import LongRun
-from ..words import advice, sentence
+from ..sentences import advice, sentence
 from .answer import Figures, Laws
 from .bounds import feasible_of
 from .following import AtLevel

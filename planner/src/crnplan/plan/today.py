@@ -25,7 +25,7 @@ from ..read.quiet import QUIET, is_dead, quiet_periods
 from ..read.stock import NONE, QUANTITIES, TO_COME, Holdings, OnHand, read_holdings
 from ..remarks import Remark, Value
 from ..table import names_of
-from ..words import message
+from ..sentences import message
 from .answer import Answer
 from .catalogue import PlannedFolder
 from .standing import Worth, Standing

@@ -20,7 +20,7 @@ from ..remarks import Remark
 from ..policies import Levels
 from ..columns import columns_of
 from ..table import DataTable, Result
-from ..words import sentence
+from ..sentences import sentence
 from .answer import CHOSEN, TODAY, Answer, Figures
 from .choice import best_of
 from .how import Settings, without_season

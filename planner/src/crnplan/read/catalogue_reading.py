@@ -21,7 +21,7 @@ from ..store.means import Means
 from ..money import MOST_DECIMALS, Currency
 from ..remarks import Remark, Value
 from ..store.stored import StoredCell, Opened, check_whole, quoted, reading
-from ..words import message
+from ..sentences import message
 from .blocks import Sizes
 from .marks import said_of_marks
 from .columns import converted, is_converted

@@ -15,7 +15,7 @@ import numpy.typing as npt
 
 from ..spelling import worded
 from ..remarks import Remark, Value
-from ..words import message
+from ..sentences import message
 
 
 @dataclass(frozen=True)

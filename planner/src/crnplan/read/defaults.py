@@ -12,7 +12,7 @@ from ..errors import Refused, argument
 from ..money import Number
 from ..table import names_of
 from ..vocabulary import PAIRS, Kind, Vocabulary, by_name, named, table_in, word
-from ..words import message
+from ..sentences import message
 from .amounts import SIGNS, amount_of, share_of
 from .cells import HEADINGS, Cell, Unreadable
 from .times import PERIOD, TimeReader

@@ -14,7 +14,7 @@ from ..formats import MOST_WEIGHT
 from ..remarks import Remark
 from ..toml.documents import shown
 from ..vocabulary import read_argument
-from ..words import message
+from ..sentences import message
 from .cells import Numbers, Unreadable
 from .dates import DateReader, Day as Day, period_of
 from .frames import cell_of

@@ -9,7 +9,7 @@ from ..errors import Refused
 from ..money import exact
 from ..remarks import Remark
 from ..toml.documents import shown
-from ..words import message
+from ..sentences import message
 
 
 @dataclass(frozen=True)

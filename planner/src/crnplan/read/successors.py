@@ -13,7 +13,7 @@ from typing import Any
 
 from ..errors import Refused
 from ..remarks import Remark, Value
-from ..words import message
+from ..sentences import message
 from .dates import period_name
 from .item import PHASE_OUT, STOPPED, Item, some
 from .items import Reading

@@ -13,7 +13,7 @@ from ..plan.backtest.sums import SLACK, Sums, moves_of
 from ..read.item import Item
 from ..remarks import Remark
 from ..table import Column, DataTable, aligned
-from ..words import advised, counted
+from ..sentences import advised, counted
 from ..columns import columns_of
 from ..drawing.rendering import met, number, percent, points, rendered
 from .verdicts import GAIN, METHOD_WORDS, gains_said, less_said, past_said

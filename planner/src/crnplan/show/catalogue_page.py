@@ -113,7 +113,7 @@ class ItemColumn(NamedTuple):
         return self._replace(heading=self.title, width=PADDING + max(widths))
 
 
-TRAITS = declared("show/words.toml")["items"]
+TRAITS = declared("show/texts.toml")["items"]
 ITEM_COLUMNS = [ItemColumn(its.name, **TRAITS[its.name]) for its in DECISION_COLUMNS]
 
 

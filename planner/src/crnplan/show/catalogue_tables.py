@@ -14,7 +14,7 @@ from ..read.items import OUTSIDE, Reject
 from ..read.lateness import receipt_remarks
 from ..remarks import Remark
 from ..table import DataTable
-from ..words import advice, counted, pattern, sentence
+from ..sentences import advice, counted, pattern, sentence
 from ..columns import columns_of
 from .control_tables import controls_of
 from ..drawing.rendering import rendered

@@ -20,12 +20,12 @@ from ..read.dates import EVERY, period_name
 from ..policies import Policy
 from ..table import DataTable
 from ..theory.suggestions import COLUMNS as POLICY_COLUMNS
-from ..words import MONTHS, advised, exactness, sentence
+from ..sentences import MONTHS, advised, exactness, sentence
 from .catalogue_tables import DECISION_COLUMNS, DETAIL_COLUMNS, ItemDecision
 from ..columns import columns_of
 from .calendars import ItemMonth
 from .item_plots import ALONE, history_plot, law_plot, stock_plot
-from .law_words import law_words, plain_words
+from .law_names import law_name, plain_words
 from ..drawing.plots import Scale
 from ..drawing.rendering import capital, number, rendered, templates
 from .verdicts import VERDICTS
@@ -61,7 +61,7 @@ class ItemWords:
         self.decimals = currency.decimals
         self.level = f"{100 * self.settings.level:g}%"
         self.near = f"within {100 * WITHIN:g}%"
-        self.law = law_words(self.question.all_year)
+        self.law = law_name(self.question.all_year)
         self.by, step = "crnsim", self.answer.step * self.item.box
         self.exactness = exactness(step)
         if self.answer.source == THEORY:
@@ -103,8 +103,8 @@ class ItemWords:
         return f"{self.money(abs(saving))} {'more' if saving < 0 else 'less'}"
 
     def _sentences(self, name: str, *facts: object) -> str:
-        """Returns the sentences of a macro of item_words.txt."""
-        macros = templates(False).get_template("item_words.txt").module
+        """Returns the sentences of a macro of item_text.txt."""
+        macros = templates(False).get_template("item_text.txt").module
         return " ".join(getattr(macros, name)(self, *facts).split())
 
     @property
@@ -240,7 +240,7 @@ def laws_of(question: Question, single: FittedLaw | None) -> DataTable:
     }.items():
         if law is None:
             continue
-        name, is_seen = law_words(law), law.family == EMPIRICAL
+        name, is_seen = law_name(law), law.family == EMPIRICAL
         seen = law.diagnostics.seen
         if table == "demand" and question.season:
             seen, is_seen = question.seen, False

@@ -30,7 +30,7 @@ from ..read.observed import Day, stated_day
 from ..read.opening import Table
 from ..read.configuration import made_from, merged, told_of
 from ..table import DataTable, Json, Result, names_of
-from ..words import counted
+from ..sentences import counted
 from .catalogue_tables import (
     REJECT_COLUMNS,
     counted_rows,

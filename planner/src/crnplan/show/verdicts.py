@@ -1,4 +1,4 @@
-"""The words of verdicts on items and on the past of a catalogue, which words.toml has."""
+"""The words of verdicts on items and on the past of a catalogue, which sentences.toml has."""
 from __future__ import annotations
 
 from collections.abc import Sequence
@@ -17,7 +17,7 @@ class Verdict(NamedTuple):
     style: str = ""
 
 
-WORDS = declared("show/words.toml")
+WORDS = declared("show/texts.toml")
 # By verdict, in the order in which a page names them.
 VERDICTS = {name: Verdict(**words) for name, words in WORDS["verdicts"].items()}
 PAST: dict[str, str] = WORDS["past"]

@@ -26,7 +26,7 @@ from ..columns import columns_of
 from ..table import DataTable, Json, Result
 from ..toml.documents import read_document
 from ..toml.scenarios import head_of, plain_text
-from ..words import sentence
+from ..sentences import sentence
 from .figures import PolicyFigures
 from .lattice import theories_of
 from .long_run import Candidate, LongRun

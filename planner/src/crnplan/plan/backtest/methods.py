@@ -2,7 +2,7 @@
 
 A method is run as it aims by itself, and at several aims about that. What these come to is a curve of stock against
 demand met at once, on which methods are compared at one fill rate: see `curves.py`. A further method is a field of
-`Backtest`, an entry of METHODS with its code, and its words in show/words.toml; and an entry in `Lessons` if items learn
+`Backtest`, an entry of METHODS with its code, and its words in show/texts.toml; and an entry in `Lessons` if items learn
 for it, or if catalogues are planned so.
 """
 from __future__ import annotations

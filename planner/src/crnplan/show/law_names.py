@@ -25,7 +25,7 @@ def plain_words(law: FittedLaw) -> str:
     return "the law fitted to this history"
 
 
-def law_words(law: FittedLaw) -> str:
+def law_name(law: FittedLaw) -> str:
     """Returns in words what a figure is by that rests on a law: the same with what a statistician asks for."""
     its, method = law.diagnostics, law.diagnostics.method
     more = ""

@@ -1,6 +1,6 @@
 """The words of everything that is said as a code with facts: one sentence for each code, without a full stop.
 
-words.toml and record_words.toml have them as formats of Python over the facts of a remark, and over what follows from
+sentences.toml and record_sentences.toml have them as formats of Python over the facts of a remark, and over what follows from
 these by the functions of DERIVED. A pair has what is said of a code, and what to do about it. Nothing reads these words
 again.
 """
@@ -376,8 +376,8 @@ class _Blanked(dict[str, Any]):
 
 # What is said of a code, and what to do about it.
 WORDS: dict[str, tuple[Say, Say]] = {
-    **_templates("words.toml"),
-    **_templates("record_words.toml"),
+    **_templates("sentences.toml"),
+    **_templates("record_sentences.toml"),
     "several": (_several(0), _several(1)),
 }
 for _name in TESTS:
