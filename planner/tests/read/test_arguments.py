@@ -16,7 +16,7 @@ from crnplan.errors import Refused, argument
 from crnplan.spelling import as_python
 
 OPTION = re.compile(r"--[a-z]")
-OURS = ("read/*.py", "demand/**/*.py", "*words.*")
+OURS = ("read/*.py", "demand/**/*.py", "*sentences.*")
 
 
 def options_in(folder: Path) -> list[str]:
@@ -87,17 +87,17 @@ def test_rejects_in_a_call_and_in_a_command(
 
 
 def test_no_code_is_said_twice() -> None:
-    """Both tables of words, and the words that functions make, have each code once: none hides another."""
+    """Both tables of sentences, and those that functions make, have each code once: none hides another."""
     tables = [
         sentences._templates(file)
         for file in ("sentences.toml", "record_sentences.toml")
     ]
     made = {
         code: pair
-        for code, pair in words.WORDS.items()
+        for code, pair in sentences.WORDS.items()
         if not any(code in table for table in tables)
     }
-    assert len(words.WORDS) == len(made) + sum(map(len, tables))
+    assert len(sentences.WORDS) == len(made) + sum(map(len, tables))
     assert all(
-        words.WORDS[code] == pair for table in tables for code, pair in table.items()
+        sentences.WORDS[code] == pair for table in tables for code, pair in table.items()
     )
