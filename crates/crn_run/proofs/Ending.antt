@@ -1,5 +1,5 @@
 -- The runs of all policies, as stacks: of their jobs, and of their ends.
-use Rattle.std.proofs.Common.{◌≡◌, ◌≢◌, Bool, ℕ, zero, suc, refl, ◌+◌, ◌<◌, ◌≤◌, List, [], ◌∷◌, ◌++◌, length, None, Some, slice_get, get_or, Result, Ok, Err, IfErr, IfOk, OnOk, true, false, subst, sym, ap, ◌∙◌, arith, length-append}
+use Rattle.std.proofs.Common.{◌≡◌, ◌≢◌, Bool, ℕ, zero, suc, refl, ◌+◌, ◌<◌, ◌≤◌, List, [], ◌∷◌, ◌++◌, length, Option, None, Some, slice_get, get_or, Result, Ok, Err, IfErr, IfOk, OnOk, OnErr, true, false, subst, sym, ap, ◌∙◌, arith, length-append}
 use mathlib.Core.Logic.{dite}
 use native.Mathlib.Decide.{ℕ_discrete}
 use Rattle.std.proofs.lemmas.Bool.{false≢true}
@@ -27,7 +27,9 @@ use Rattle.crn_run.specs.Faults.{EndedUnused, IsEnded, IsEndedOn, found_end}
 use Rattle.crn_run.specs.Gates.{AllPassed, AllPassedOrHeld, HeldAt, PassedOrHeld, PassedUpTo, SomeHeld, WasAsked}
 use Rattle.crn_run.specs.Inner.Ends.{AllReached, HasEarly, IsEarlyEnd, is_short}
 use Rattle.crn_run.specs.Jobs.{ring_spec}
-use Rattle.crn_run.specs.Inner.Jobs.{IsDone, IsReady, AreEnds, AreJobs, Gathers, HasRun}
+use Rattle.crn_run.specs.Threads.{ComesFrom, ComesTo, FirstComeTo, FromOneRing, FromThreads}
+use Rattle.crn_run.specs.Turns.{RunsByTurns}
+use Rattle.crn_run.specs.Inner.Jobs.{IsDone, IsReady, AreEnds, AreJobs, AreStarted, Gathers, HasRun, HaveStarted}
 use Rattle.crn_run.specs.declared.fault.ThreadFault.{ThreadFault}
 use Rattle.crn_run.specs.Inner.Refusals.{RefusesEnds, RefusesRun}
 use Rattle.crn_sequential.proofs.Growing.{HoldsOfEach, each-grown, slice_get_front, slice_get_last}
@@ -53,11 +55,52 @@ job_from s ring start from i r j checkpoint first fresh number place is_state =
         reader = fresh.0;
         number = sym number;
         running = running;
+        fresh = fresh.2;
         stands = subst (λ (n : ℕ). StandsBefore s.model n j.state) (sym taken) stands;
       };
       policy = omega (arith, number, number_is, place);
       state = is_state;
     }
+
+-- an item of a list with one more: before the last, or the last
+from_front : {X : Type 0} (xs : List X) (x y : X) (i : ℕ) → i < length xs → slice_get (xs ++ x ∷ []) i ≡ Some y → slice_get xs i ≡ Some y
+from_front [] x y i lt is = absurd (omega (arith, lt))
+from_front (z ∷ zs) x y zero lt is = is
+from_front (z ∷ zs) x y (suc i) lt is = from_front zs x y i (omega (arith, lt)) is
+
+from_last : {X : Type 0} (xs : List X) (x y : X) (i : ℕ) → i ≡ length xs → slice_get (xs ++ x ∷ []) i ≡ Some y → x ≡ y
+from_last {X} xs x y i at is = same_of (slice_get (xs ++ x ∷ []) (length xs)) x y (slice_get_last xs x) (subst (λ (n : ℕ). slice_get (xs ++ x ∷ []) n ≡ Some y) at is)
+
+module _ {G : Type 0} (refused : G → Bool) (asked : G → ℕ → ℕ → Bool → G → Type 0) (s : ScenarioParts) (ring : Ring) where
+  -- no thread was started
+  pub none_started : (jobs : List Job) (gates : List G) (ends : List PolicyEnd) → length ends ≡ 0 → 0 < length jobs → AreStarted refused asked s ring jobs gates ends
+  none_started jobs gates ends none some = record {
+    fewer = omega (arith, none, some);
+    each = λ i k p j gate e place there is is_gate is_end. absurd (omega (arith, none, place));
+  }
+
+  -- of the threads that were started, one more
+  one_started : (jobs : List Job) (gates : List G) (ends : List PolicyEnd) (j : Job) (gate : G) (e : PolicyEnd) → AreStarted refused asked s ring jobs gates ends → IsDone refused asked s ring j gate e
+      → (i k p : ℕ) (q : Job) (g : G) (x : PolicyEnd) → i + k ≡ length ends → p + k ≡ length jobs → slice_get (jobs ++ j ∷ []) p ≡ Some q → slice_get (gate ∷ gates) k ≡ Some g
+      → slice_get (ends ++ e ∷ []) i ≡ Some x → IsDone refused asked s ring q g x
+  one_started jobs gates ends j gate e are last i zero p q g x place there is_job is_gate is_end =
+      let its_job : j ≡ q = from_last jobs j q p (omega (arith, there)) is_job in
+      let its_end : e ≡ x = from_last ends e x i (omega (arith, place)) is_end in
+      let its_gate : gate ≡ g = same_of (Some gate) gate g refl is_gate in
+      subst (λ (y : Job). IsDone refused asked s ring y g x) its_job (subst (λ (y : G). IsDone refused asked s ring j y x) its_gate (subst (λ (y : PolicyEnd). IsDone refused asked s ring j gate y) its_end last))
+  one_started jobs gates ends j gate e are last i (suc k) p q g x place there is_job is_gate is_end =
+      are.each i k p q g x (omega (arith, place)) (omega (arith, there)) (from_front jobs j q p (omega (arith, there)) is_job) is_gate (from_front ends e x i (omega (arith, place)) is_end)
+
+  pub one_more_started : (jobs jobs' : List Job) (gates gates' : List G) (ends ends' : List PolicyEnd) (j : Job) (gate : G) (e : PolicyEnd) → jobs' ≡ jobs ++ j ∷ [] → gates' ≡ gate ∷ gates → ends' ≡ ends ++ e ∷ []
+      → AreStarted refused asked s ring jobs gates ends → IsDone refused asked s ring j gate e → AreStarted refused asked s ring jobs' gates' ends'
+  one_more_started jobs jobs' gates gates' ends ends' j gate e more_jobs more_gates more_ends are last =
+      let jobs_longer : length jobs' ≡ length jobs + 1 = omega (arith, ap length more_jobs, length-append jobs (j ∷ [])) in
+      let ends_longer : length ends' ≡ length ends + 1 = omega (arith, ap length more_ends, length-append ends (e ∷ [])) in
+      record {
+        fewer = omega (arith, are.fewer, jobs_longer, ends_longer);
+        each = λ i k p q g x place there is_job is_gate is_end. one_started jobs gates ends j gate e are last i k p q g x (omega (arith, place, ends_longer)) (omega (arith, there, jobs_longer))
+            (subst (λ (l : List Job). slice_get l p ≡ Some q) more_jobs is_job) (subst (λ (l : List G). slice_get l k ≡ Some g) more_gates is_gate) (subst (λ (l : List PolicyEnd). slice_get l i ≡ Some x) more_ends is_end);
+      }
 
 module _ {G : Type 0} (refused : G → Bool) (asked : G → ℕ → ℕ → Bool → G → Type 0) (s : ScenarioParts) (ring : Ring) where
   -- e is what the job at place i comes to
@@ -116,6 +159,10 @@ pub with_value : {T E P L Q : Type 0} (r : Result T E) → (P → L → Q) → O
 with_value (Ok x) follows before last = follows before last
 with_value (Err e) follows before last = before
 
+pub with_error : {T E P L Q : Type 0} (r : Result T E) → (P → L → Q) → OnErr r P → L → OnErr r Q
+with_error (Ok x) follows before last = before
+with_error (Err e) follows before last = follows before last
+
 -- ---- what is gathered from the ends
 
 -- w, or x, at place k, is of the end that stands k places below the last
@@ -146,6 +193,79 @@ place_of zero (suc n) lt = (n, omega arith)
 place_of (suc k) (suc n) lt =
     let below : (i : ℕ) × (i + k + 1 ≡ n) = place_of k n (omega (arith, lt)) in
     (below.0, omega (arith, below.1))
+
+-- ---- what the threads come to, by policies
+
+same_reader : (w u : Parts) (y x : Reader) → Reached w y ≡ Reached u x → y ≡ x
+same_reader w u y x e = cc
+
+module _ {G : Type 0} (refused : G → Bool) (asked : G → ℕ → ℕ → Bool → G → Type 0) (s : ScenarioParts) (ring : Ring) where
+  -- what a job comes to, by its policy
+  thread_of : (j : Job) (k : ℕ) (v : Parts) (gate : G) (e : PolicyEnd) → IsReady s ring j → j.policy ≡ k → j.state ≡ v → IsDone refused asked s ring j gate e → ComesTo refused asked s ring k v gate e
+  thread_of j k v gate e ready policy state d = record {
+    ends = subst (λ (u : Parts). EndsAs s k u ring k e) state (subst (λ (n : ℕ). EndsAs s n j.state ring n e) policy d.ends);
+    turns = subst (λ (q : ReaderPart). RunsByTurns (spec_of ring) q e) ready.fresh d.turns;
+    gate' = d.gate';
+    was_asked = subst (λ (u : Parts). WasAsked asked k (next_block u) e gate d.gate') state (subst (λ (n : ℕ). WasAsked asked n (next_block j.state) e gate d.gate') policy d.was_asked);
+    held = d.held;
+  }
+
+  module _ (start : List Parts) (jobs : List Job) (gates : List G) (ends : List PolicyEnd) (are_jobs : AreJobs s ring start jobs) where
+    -- of the threads that were started before one failed to
+    of_started : AreStarted refused asked s ring jobs gates ends → FirstComeTo refused asked s ring start gates ends
+    of_started are = record {
+      each = λ i k e v gate place is is_state is_gate.
+          let there : (p : ℕ) × (p + k + 1 ≡ length jobs) = place_of k (length jobs) (omega (arith, place, are.fewer)) in
+          let it : (j : Job) × (slice_get jobs there.0 ≡ Some j) = item_at jobs there.0 (omega (arith, there.1)) in
+          let j : Job = it.0 in
+          let policy : j.policy ≡ k = omega (arith, there.1, are_jobs.policies there.0 j it.1, are_jobs.count) in
+          let begins : slice_get start k ≡ Some j.state = subst (λ (n : ℕ). slice_get start n ≡ Some j.state) policy (are_jobs.states there.0 j it.1) in
+          thread_of j k v gate e (are_jobs.ready there.0 j it.1) policy (same_of (slice_get start k) j.state v begins is_state) (are.each i k there.0 j gate e place there.1 it.1 is_gate is);
+    }
+
+    -- of all
+    pub of_all : AreEnds refused asked s ring jobs gates ends → FirstComeTo refused asked s ring start gates ends
+    of_all are = record {
+      each = λ i k e v gate place is is_state is_gate.
+          let it : (j : Job) × (slice_get jobs i ≡ Some j) = item_at jobs i (omega (arith, place, are.count)) in
+          let j : Job = it.0 in
+          let policy : j.policy ≡ k = omega (arith, place, are.count, are_jobs.policies i j it.1, are_jobs.count) in
+          let begins : slice_get start k ≡ Some j.state = subst (λ (n : ℕ). slice_get start n ≡ Some j.state) policy (are_jobs.states i j it.1) in
+          thread_of j k v gate e (are_jobs.ready i j it.1) policy (same_of (slice_get start k) j.state v begins is_state) (are.each i k j gate e (place ∙ are.count) it.1 is_gate is);
+    }
+
+    -- the states and readers that are gathered
+    pub from_one_ring : (states : List Parts) (readers : List Reader) (first upto : ℕ) → spec_of ring ≡ ring_spec s first upto → AreEnds refused asked s ring jobs gates ends → Gathers ends states readers
+        → FromOneRing refused asked s first upto start gates states readers
+    from_one_ring states readers first upto opened are gathers = record {
+      ring = ring;
+      spec = opened;
+      each = λ k v w gate x is_state is_gate is is_reader.
+          let there : (i : ℕ) × (i + k + 1 ≡ length ends) = place_of k (length ends) (omega (arith, gathers.state_count, slice_get_within states k w is)) in
+          let of_state : (y : Reader) × (slice_get ends there.0 ≡ Some (Reached w y)) = gathers.states_of k w is there.0 there.1 in
+          let of_reader : (u : Parts) × (slice_get ends there.0 ≡ Some (Reached u x)) = gathers.readers_of k x is_reader there.0 there.1 in
+          let same : of_state.0 ≡ x = same_reader w of_reader.0 of_state.0 x (same_of (slice_get ends there.0) (Reached w of_state.0) (Reached of_reader.0 x) of_state.1 of_reader.1) in
+          let is_end : slice_get ends there.0 ≡ Some (Reached w x) = subst (λ (y : Reader). slice_get ends there.0 ≡ Some (Reached w y)) same of_state.1 in
+          (of_all are).each there.0 k (Reached w x) v gate there.1 is_end is_state is_gate;
+    }
+
+  -- why there is no result where a thread failed to start
+  pub threads_started : (start : List Parts) (jobs : List Job) (gates : List G) (f : ThreadFault) → AreJobs s ring start jobs → found_end f.cause ≡ None → HaveStarted refused asked s ring jobs gates
+      → FromThreads refused asked s ring start gates (found_end f.cause)
+  threads_started start jobs gates f are_jobs none have =
+      let fewer : length have.ends < length s.policies = omega (arith, have.started.fewer, are_jobs.count) in
+      subst (FromThreads refused asked s ring start gates) (sym none) (record {
+        ends = have.ends;
+        threads = of_started start jobs gates have.ends are_jobs have.started;
+        fault = fewer;
+      })
+
+  -- where a reader found the end early
+  pub short_of : (ends : List PolicyEnd) (i : ℕ) (f : ThreadFault) (e : PolicyEnd) → length ends ≡ length s.policies → slice_get ends i ≡ Some e → IsEarlyEnd f e → ComesFrom s (found_end f.cause) ends
+  short_of ends i f (Reached w x) count is early = absurd early
+  short_of ends i f (Short n w x) count is early =
+      subst (λ (o : Option ℕ). ComesFrom s o ends) (sym early) (count, record { place = i; state = w; reader = x; is_end = is })
+  short_of ends i f (Held w x) count is early = absurd early
 
 -- policy number k's state of `start` has become w
 pub record RunFrom (s : ScenarioParts) (start : List Parts) (upto k : ℕ) (w : Parts) : Type 0 where
@@ -314,8 +434,15 @@ module _ {G : Type 0} (refused : G → Bool) (asked : G → ℕ → ℕ → Bool
         passed_or_held first k at.0 checkpoint (end_of at.1 k at.0 at.3 at.2) (never_any is_short ends at.1 at.0 whole at.2) gate is_gate
 
     -- why the run has no result, by its ends
-    pub of_ends : (first : ℕ) (e : RunFault) → IsCheckpointOf s first start → RefusesEnds ends e → RefusesRun refused asked ring first upto gates e
-    of_ends first (Thread f) checkpoint h = some_early f h
+    pub of_ends : (first : ℕ) (e : RunFault) → IsCheckpointOf s first start → RefusesEnds ends e → RefusesRun refused asked s ring first upto start gates e
+    of_ends first (Thread f) checkpoint h = (
+      some_early f h,
+      record {
+        ends = ends;
+        threads = of_all refused asked s ring start jobs gates ends are_jobs are_ends;
+        fault = short_of refused asked s ring ends h.place f h.end (are_ends.count ∙ are_jobs.count) h.is_end h.early;
+      },
+    )
     of_ends first Gate checkpoint h = (some_held first checkpoint h.1, all_passed_or_held first checkpoint h.0)
     of_ends first (Memory refused) checkpoint h = absurd h
 
@@ -375,14 +502,16 @@ pub on_err : {T E : Type 0} (r : Result T E) (A : T → Type 0) (B : E → Type 
 on_err (Ok x) A B h = tt
 on_err (Err e) A B h = h
 
-module _ {G : Type 0} (refused : G → Bool) (asked : G → ℕ → ℕ → Bool → G → Type 0) (ring : Ring) (first upto : ℕ) (gates : List G) where
-  pub told_thread : {T : Type 0} (s : ScenarioParts) (f : ThreadFault) (r : Result T RunFault) → spec_of ring ≡ ring_spec s first upto → r ≡ Err (Thread f)
-      → IfErr r (λ e. RefusesRun refused asked ring first upto gates e) → IsEnded s first upto (found_end f.cause)
-  told_thread {T} s f r opened is h =
-      record { ring = ring; spec = opened; ended = subst (λ (x : Result T RunFault). IfErr x (λ e. RefusesRun refused asked ring first upto gates e)) is h }
+module _ {G : Type 0} (refused : G → Bool) (asked : G → ℕ → ℕ → Bool → G → Type 0) (s : ScenarioParts) (ring : Ring) (first upto : ℕ) (start : List Parts) (gates : List G) where
+  pub told_thread : {T : Type 0} (f : ThreadFault) (r : Result T RunFault) → spec_of ring ≡ ring_spec s first upto → r ≡ Err (Thread f)
+      → IfErr r (λ e. RefusesRun refused asked s ring first upto start gates e) → IsEnded refused asked s first upto start gates (found_end f.cause)
+  told_thread {T} f r opened is h =
+      let told : IsEndedOn ring upto (found_end f.cause) × FromThreads refused asked s ring start gates (found_end f.cause) =
+      subst (λ (x : Result T RunFault). IfErr x (λ e. RefusesRun refused asked s ring first upto start gates e)) is h in
+      record { ring = ring; spec = opened; ended = told.0; threads = told.1 }
 
-  pub told_gate : (e : RunFault) → e ≡ Gate → RefusesRun refused asked ring first upto gates e → SomeHeld refused asked first upto gates × AllPassedOrHeld refused asked first upto gates
-  told_gate e is h = subst (λ (x : RunFault). RefusesRun refused asked ring first upto gates x) is h
+  pub told_gate : (e : RunFault) → e ≡ Gate → RefusesRun refused asked s ring first upto start gates e → SomeHeld refused asked first upto gates × AllPassedOrHeld refused asked first upto gates
+  told_gate e is h = subst (λ (x : RunFault). RefusesRun refused asked s ring first upto start gates x) is h
 
 -- what the gate was asked in a run that its reader has seen the end of
 pub asked_whole : {G : Type 0} (asked : G → ℕ → ℕ → Bool → G → Type 0) (k from n all : ℕ) (g g' : G) (w : Parts) (x : Reader) (e : PolicyEnd) → (n ≡ all → e ≡ Reached w x) → (n ≢ all → e ≡ Short n w x)
@@ -414,3 +543,7 @@ handed_told (Err f) e A P h holds = subst P (sym h.1) holds
 
 pub handed_err : {T E : Type 0} (r : Result T E) (e : E) (P : E → Type 0) → IsErr r × IsErrAnd r (λ f. f ≡ e) → P e → IfErr r P
 handed_err {T} r e P h holds = on_err r (λ (_ : T). ⊤) P (handed_told r e (λ _. ⊤) P h holds)
+
+pub handed_on : {T E : Type 0} (r : Result T E) (P : Type 0) → P → OnErr r P
+handed_on (Ok x) P holds = tt
+handed_on (Err f) P holds = holds

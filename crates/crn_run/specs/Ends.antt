@@ -11,7 +11,7 @@ use Rattle.crn_sequential.specs.Runs.{StandsBefore}
 use Rattle.crn_run.specs.declared.worker.PolicyEnd.{PolicyEnd}
 use Rattle.crn_run.specs.declared.worker.PolicyEnd.TheVariants.{Reached, Short, Held}
 
--- w stands before block n, and is what policy number k's state v becomes by the blocks from its next one to n - 1
+-- w stands before block n, and is what policy k's state v becomes by the blocks from its next one on
 pub record IsRun (s : ScenarioParts) (k : ℕ) (v : Parts) (n : ℕ) (w : Parts) : Type 0 where
   pub stands : StandsBefore s.model n w
   pub at : (p : Policy) → slice_get s.policies k ≡ Some p → At s.model p s.key (next_block v) v → At s.model p s.key n w

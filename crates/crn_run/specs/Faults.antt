@@ -1,5 +1,6 @@
 -- Why a run of all policies has no result.
-use Rattle.std.specs.Prelude.{◌≡◌, ℕ, ◌<◌, true, Option, None, Some}
+use Rattle.std.specs.Prelude.{◌≡◌, ℕ, ◌<◌, Bool, true, List, Option, None, Some}
+use Rattle.crn_stock.specs.Parts.{Parts}
 use Rattle.crn_stock.specs.Models.{ScenarioParts}
 use Rattle.crn_ring.specs.declared.ring.Ring.{Ring}
 use Rattle.crn_ring.specs.declared.producer.Producer.{Producer}
@@ -7,6 +8,7 @@ use Rattle.crn_ring.specs.declared.reader.Reader.{Reader}
 use Rattle.crn_ring.specs.Calls.{IsProducerOf, producer_part, spec_of}
 use Rattle.crn_run.specs.Ends.{HasReadAll}
 use Rattle.crn_run.specs.Jobs.{ring_spec}
+use Rattle.crn_run.specs.Threads.{FromThreads}
 use Rattle.crn_run.specs.declared.fault.Cause.{Cause}
 use Rattle.crn_run.specs.declared.fault.Cause.TheVariants.{Refused, Ended}
 use Rattle.crn_run.specs.declared.fault.RunFault.{RunFault}
@@ -37,14 +39,14 @@ pub record EndedEarly (ring : Ring) (upto n : ℕ) : Type 0 where
   pub read : HasReadAll ring number n reader
   pub early : n < upto
 
--- what a fault of a thread says of the ring of a run up to block upto: a reader found the end early, before this block, or,
--- with none, the end was marked with nothing published
+-- a reader found the end early, before this block, or, with none, the end was marked with nothing published
 abbrev pub IsEndedOn : Ring → ℕ → Option ℕ → Type 0
 IsEndedOn ring upto None = EndedUnused ring
 IsEndedOn ring upto (Some n) = EndedEarly ring upto n
 
--- so of a ring of the scenario for the blocks from `first` to upto - 1
-pub record IsEnded (s : ScenarioParts) (first upto : ℕ) (found : Option ℕ) : Type 0 where
+-- so of a ring of the scenario for the blocks from `first` to upto - 1, and of its threads
+pub record IsEnded {Gate : Type 0} (refused : Gate → Bool) (asked : Gate → ℕ → ℕ → Bool → Gate → Type 0) (s : ScenarioParts) (first upto : ℕ) (start : List Parts) (gates : List Gate) (found : Option ℕ) : Type 0 where
   pub ring : Ring
   pub spec : spec_of ring ≡ ring_spec s first upto
   pub ended : IsEndedOn ring upto found
+  pub threads : FromThreads refused asked s ring start gates found

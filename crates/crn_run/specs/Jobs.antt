@@ -11,8 +11,8 @@ use Rattle.crn_run.specs.Ends.{HasReadAll}
 abbrev pub ring_spec : ScenarioParts → ℕ → ℕ → RingSpec
 ring_spec s first upto = record { size = s.ring; readers = length s.policies; id = record { key = s.key; first = first; total = upto } }
 
--- the readers, in order and one for each policy, of a ring of the scenario that has carried the blocks from `first` to
--- upto - 1. Each has taken them all and has seen the end
+-- the readers, one for each policy, of a ring of the scenario for the blocks from `first` to upto - 1. Each has taken them all
+-- and seen the end
 pub record AreReaders (s : ScenarioParts) (first upto : ℕ) (readers : List Reader) : Type 0 where
   pub ring : Ring
   pub spec : spec_of ring ≡ ring_spec s first upto

@@ -14,7 +14,7 @@ use Rattle.crn_run.specs.declared.waiting.Counted.{Counted}
 use Rattle.crn_run.specs.declared.worker.PolicyEnd.{PolicyEnd}
 use Rattle.crn_run.specs.declared.worker.PolicyEnd.TheVariants.{Reached, Short, Held}
 
--- The next blocks were taken: of what the last look had shown or, if none was left, of what one look has shown.
+-- The next blocks were taken: of what the last look had shown or, if none was left, of one look.
 pub record TakesNext (spec : RingSpec) (q q' : ReaderPart) (out out' : List Block) (count : ℕ) : Type 0 where
   pub some : 0 < count
   pub taken : q'.taken ≡ q.taken + count

@@ -2,11 +2,12 @@
 ghost use Rattle.std.specs.Prelude.{◌≡◌, ◌<◌, ◌≤◌, false, length, slice_get, Some, IfOk, IfErr};
 ghost use Rattle.crn_stock.specs.Stock.{next_block};
 ghost use Rattle.crn_stock.specs.Models.{total};
-ghost use Rattle.crn_ring.specs.Calls.{AllFresh, IsOpened, reader_number, spec_of};
+ghost use Rattle.crn_ring.specs.Calls.{AllFresh, IsOpened, reader_number, reader_part, spec_of};
 ghost use Rattle.crn_sequential.specs.Runs.{IsCheckpointOf};
 ghost use Rattle.crn_run.specs.Ends.{EndsAs, is_held};
 ghost use Rattle.crn_run.specs.Gates.{WasAsked};
 ghost use Rattle.crn_run.specs.Jobs.{ring_spec};
+ghost use Rattle.crn_run.specs.Turns.{RunsByTurns};
 ghost use Rattle.crn_run.specs.Inner.Jobs.{AreJobs, CarriesFor, IsReady};
 
 use crate::gate::Gate;
@@ -43,6 +44,7 @@ impl Job {
         ensures end { EndsAs scenario.now self.policy self.state ring.now self.policy result }
         ensures held { G.refused gate.new ≡ is_held result }
         ensures asked { WasAsked G.asked self.policy (next_block self.state) result gate.old gate.new }
+        ensures turns { RunsByTurns (spec_of ring.now) (reader_part self.reader) result }
     {
         let Job {
             policy,

@@ -9,6 +9,7 @@ ghost use Rattle.crn_run.specs.Ends.{is_held};
 ghost use Rattle.crn_run.specs.Faults.{IsEnded, found_end};
 ghost use Rattle.crn_run.specs.Gates.{AllPassed, AllPassedOrHeld, SomeHeld};
 ghost use Rattle.crn_run.specs.Jobs.{AreReaders, ring_spec};
+ghost use Rattle.crn_run.specs.Threads.{FromOneRing};
 ghost use Rattle.crn_run.specs.declared.fault.ThreadFault.{ThreadFault};
 ghost use Rattle.crn_run.specs.Inner.Ends.{AllReached, HasEarly, is_short};
 ghost use Rattle.crn_run.specs.Inner.Jobs.{AllReady, AreJobs, CarriesFor, Gathers, HasRun};
@@ -52,8 +53,8 @@ pub struct Finished {
 /// # Errors
 ///
 /// - [`RunFault::Thread`]: a thread failed to start, and the ring was ended with nothing published. Or a policy's reader found
-///   the end before `upto`, whether or not a gate answered false. [`ThreadFault::ended`] says which. The contract cannot name
-///   this call's ring: it says so of a ring of the scenario for these blocks. That of the function which runs on the ring names it.
+///   the end before `upto`, whether or not a gate answered false. [`ThreadFault::ended`] says which. The contract says so of a
+///   ring of the scenario for these blocks, over which the threads that were started have come to their ends.
 /// - [`RunFault::Gate`]: a policy's gate was asked, as it was for each block before, and answered false. Each policy's gate has
 ///   passed all blocks or answered false so, since no reader found an early end.
 /// - [`RunFault::Memory`]: an allocation failed, and no thread was started.
@@ -76,7 +77,8 @@ pub fn run_all<R: Threads + Wait + Sync, G: Gate + Send>(
     ensures onward { IfOk result (λ f. EachOnward scenario.now start.now.states.items upto f.checkpoint.states.items) }
     ensures readers { IfOk result (λ f. AreReaders scenario.now start.now.next upto f.readers.items) }
     ensures passed { OnOk result (AllPassed G.refused G.asked start.now.next upto gates.old) }
-    ensures thread { (f : ThreadFault) → result ≡ Err (RunFault.Thread f) → IsEnded scenario.now start.now.next upto (found_end f.cause) }
+    ensures one_ring { IfOk result (λ f. FromOneRing G.refused G.asked scenario.now start.now.next upto start.now.states.items gates.old f.checkpoint.states.items f.readers.items) }
+    ensures thread { (f : ThreadFault) → result ≡ Err (RunFault.Thread f) → IsEnded G.refused G.asked scenario.now start.now.next upto start.now.states.items gates.old (found_end f.cause) }
     ensures held { IfErr result (λ e. e ≡ RunFault.Gate → SomeHeld G.refused G.asked start.now.next upto gates.old) }
     ensures no_early_end { IfErr result (λ e. e ≡ RunFault.Gate → AllPassedOrHeld G.refused G.asked start.now.next upto gates.old) }
 {
@@ -98,7 +100,9 @@ fn run_prepared<R: Threads + Wait + Sync, G: Gate + Send>(
     ensures run { (first upto : ℕ) (start : List Parts) → spec_of prepared.ring ≡ ring_spec scenario.now first upto → IsCheckpointOf scenario.now first start → AreJobs scenario.now prepared.ring start prepared.jobs.items
         → IfOk result (λ f. HasRun scenario.now first start upto f.checkpoint.next f.checkpoint.states.items f.readers.items) }
     ensures told { (first upto : ℕ) (start : List Parts) → spec_of prepared.ring ≡ ring_spec scenario.now first upto → IsCheckpointOf scenario.now first start → AreJobs scenario.now prepared.ring start prepared.jobs.items
-        → MatchResult result (λ _. AllPassed G.refused G.asked first upto gates.old) (λ e. RefusesRun G.refused G.asked prepared.ring first upto gates.old e) }
+        → MatchResult result (λ _. AllPassed G.refused G.asked first upto gates.old) (λ e. RefusesRun G.refused G.asked scenario.now prepared.ring first upto start gates.old e) }
+    ensures one_ring { (first upto : ℕ) (start : List Parts) → spec_of prepared.ring ≡ ring_spec scenario.now first upto → IsCheckpointOf scenario.now first start → AreJobs scenario.now prepared.ring start prepared.jobs.items
+        → IfOk result (λ f. FromOneRing G.refused G.asked scenario.now first upto start gates.old f.checkpoint.states.items f.readers.items) }
 {
     let Prepared {
         ring,

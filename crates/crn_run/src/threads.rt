@@ -3,7 +3,7 @@ ghost use Rattle.std.specs.Prelude.{◌≡◌, ◌+◌, ◌≤◌, true, false, 
 ghost use Rattle.std.specs.Slice.Iter.{iter_mut_rest};
 ghost use Rattle.crn_ring.specs.Calls.{IsProducerOf, producer_part, spec_of};
 ghost use Rattle.crn_run.specs.Faults.{EndedUnused, found_end};
-ghost use Rattle.crn_run.specs.Inner.Jobs.{AllReady, AreEnds, CarriesFor, IsDone, IsReady};
+ghost use Rattle.crn_run.specs.Inner.Jobs.{AllReady, AreEnds, AreStarted, CarriesFor, HaveStarted, IsDone, IsReady};
 
 use crate::fault::ThreadFault;
 use crate::feeding::feed;
@@ -83,6 +83,7 @@ fn start_from<'s, 'e: 's, 'g: 's, R: Threads + Wait + Sync, G: Gate + Send>(
     requires room { (vec_len ends.old ≡ 0) × (vec_len jobs.old ≤ vec_capacity ends.old) }
     ensures ends { OnOk result (AreEnds G.refused G.asked scenario.now ring.now jobs.old.items (iter_mut_rest gates.entry) ends.new.items) }
     ensures thread { IfErr result (λ f. found_end f.cause ≡ None) }
+    ensures started { OnErr result (AreStarted G.refused G.asked scenario.now ring.now jobs.old.items (iter_mut_rest gates.entry) ends.new.items) }
     ensures capacity { vec_capacity ends.old ≤ vec_capacity ends.new }
     ensures of { IsProducerOf ring.now producer.new }
     ensures ended { (producer_part producer.new).ended ≡ true }
@@ -130,6 +131,7 @@ pub(crate) fn run_jobs<'r, R: Threads + Wait + Sync, G: Gate + Send>(
     requires room { (vec_len ends ≡ 0) × (vec_len jobs ≤ vec_capacity ends) }
     ensures ends { IfOk result (λ es. AreEnds G.refused G.asked scenario.now ring.now jobs.items gates.old es.items) }
     ensures thread { IfErr result (λ f. (found_end f.cause ≡ None) × EndedUnused ring.now) }
+    ensures started { OnErr result (HaveStarted G.refused G.asked scenario.now ring.now jobs.items gates.old) }
 {
     let turns = gates.iter_mut();
     thread::scope(
@@ -145,6 +147,7 @@ pub(crate) fn run_jobs<'r, R: Threads + Wait + Sync, G: Gate + Send>(
             requires room { (vec_len ends ≡ 0) × (vec_len jobs ≤ vec_capacity ends) }
             ensures ends { IfOk result (λ es. AreEnds G.refused G.asked scenario.entry.now ring.entry.now jobs.items (iter_mut_rest turns.entry) es.items) }
             ensures thread { IfErr result (λ f. (found_end f.cause ≡ None) × EndedUnused ring.entry.now) }
+            ensures started { OnErr result (HaveStarted G.refused G.asked scenario.entry.now ring.entry.now jobs.items (iter_mut_rest turns.entry)) }
         {
             let (mut producer, mut jobs, mut ends) = (producer, jobs, ends);
             start_from(

@@ -28,17 +28,21 @@ pub returns-clause-passed : goal.returns-clause-passed
 returns-clause-passed g c = let start = c.args.start.now in
     on_ok c.run_prepared.result _ _ (c.run_prepared.ensures.told start.next c.args.upto start.states.items (search rules) c.requires.of (search rules))
 
+pub returns-clause-one_ring : goal.returns-clause-one_ring
+returns-clause-one_ring g c = let start = c.args.start.now in
+    c.run_prepared.ensures.one_ring start.next c.args.upto start.states.items (search rules) c.requires.of (search rules)
+
 pub returns-clause-thread : goal.returns-clause-thread
 returns-clause-thread g c f is = let start = c.args.start.now in
-    told_thread g.G.Gate.refused g.G.Gate.asked c.in_ok-prepared.prepared.ring start.next c.args.upto c.args.gates.now c.args.scenario.now f c.run_prepared.result (search rules) is
+    told_thread g.G.Gate.refused g.G.Gate.asked c.args.scenario.now c.in_ok-prepared.prepared.ring start.next c.args.upto start.states.items c.args.gates.now f c.run_prepared.result (search rules) is
     (on_err c.run_prepared.result _ _ (c.run_prepared.ensures.told start.next c.args.upto start.states.items (search rules) c.requires.of (search rules)))
 
 pub returns-clause-held : goal.returns-clause-held
 returns-clause-held g c = let start = c.args.start.now in
-    IfErr-weaker c.run_prepared.result _ _ (λ e h is. (told_gate g.G.Gate.refused g.G.Gate.asked c.in_ok-prepared.prepared.ring start.next c.args.upto c.args.gates.now e is h).0)
+    IfErr-weaker c.run_prepared.result _ _ (λ e h is. (told_gate g.G.Gate.refused g.G.Gate.asked c.args.scenario.now c.in_ok-prepared.prepared.ring start.next c.args.upto start.states.items c.args.gates.now e is h).0)
     (on_err c.run_prepared.result _ _ (c.run_prepared.ensures.told start.next c.args.upto start.states.items (search rules) c.requires.of (search rules)))
 
 pub returns-clause-no_early_end : goal.returns-clause-no_early_end
 returns-clause-no_early_end g c = let start = c.args.start.now in
-    IfErr-weaker c.run_prepared.result _ _ (λ e h is. (told_gate g.G.Gate.refused g.G.Gate.asked c.in_ok-prepared.prepared.ring start.next c.args.upto c.args.gates.now e is h).1)
+    IfErr-weaker c.run_prepared.result _ _ (λ e h is. (told_gate g.G.Gate.refused g.G.Gate.asked c.args.scenario.now c.in_ok-prepared.prepared.ring start.next c.args.upto start.states.items c.args.gates.now e is h).1)
     (on_err c.run_prepared.result _ _ (c.run_prepared.ensures.told start.next c.args.upto start.states.items (search rules) c.requires.of (search rules)))
