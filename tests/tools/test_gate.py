@@ -148,6 +148,38 @@ def test_skipped_test_is_counted_and_fails(
     assert text in ran.stdout
 
 
+@pytest.mark.parametrize(
+    "part, text, said",
+    [
+        (
+            "suites",
+            "FAILED tests/a/test_b.py::test_c[d e] - assert 1 == 2\n1 failed in 1.20s",
+            "failed: .venv/bin/python -m pytest 'tests/a/test_b.py::test_c[d e]'",
+        ),
+        (
+            "serial",
+            "ERROR planner/tests/test_b.py::test_c\n1 error in 1.20s",
+            "failed: .venv/bin/python -m pytest 'planner/tests/test_b.py::test_c'",
+        ),
+        (
+            "rounds",
+            "FAILED crn_run/a_b: it is not refused\n3 passed, 1 failed",
+            "failed: tools/rounds.py crn_run --names a_b",
+        ),
+        ("types", "x.py:1: error: no", "failed: types, see above"),
+    ],
+    ids=["a test", "an error", "an edit", "a whole part"],
+)
+def test_last_screen_names_what_failed(
+    machine: Machine, part: str, text: str, said: str
+) -> None:
+    assert gate(machine, **{part: (1, text)}).stdout.splitlines()[-2] == said
+
+
+def test_last_screen_names_nothing_if_all_is_well(machine: Machine) -> None:
+    assert "failed: " not in gate(machine).stdout
+
+
 def test_set_up_that_fails_ends_the_gate(machine: Machine) -> None:
     assert last(gate(machine, setup=(1, "tools/setup: no network"))) == (
         1,
@@ -188,13 +220,12 @@ def test_missing_command_is_a_failure(machine: Machine) -> None:
 def test_variables_that_change_tests_are_taken_away(machine: Machine) -> None:
     write_script(machine.top / "tools" / "setup", 'part=setup; env >"$LOG.env"' + SAYS)
     gate(machine)
-    machine.run(
-        ".ci/run", CRNSIM="/other", PYTEST_ADDOPTS="-k none", PYTHONPATH="/other"
-    )
+    others = {"PYTEST_ADDOPTS": "-k none", "PYTHONDONTWRITEBYTECODE": "1"}
+    machine.run(".ci/run", CRNSIM="/other", PYTHONPATH="/other", **others)
     names = {
         it.split("=")[0]
         for it in Path(f"{machine.folder}/log.env")
         .read_text(encoding="utf-8")
         .splitlines()
     }
-    assert not names & {"CRNSIM", "PYTEST_ADDOPTS", "PYTHONPATH"}
+    assert not names & {"CRNSIM", "PYTHONPATH", *others}
