@@ -125,6 +125,12 @@ def test_tables_are_those_of_the_item(
     assert len(rows) > 8
 
 
+def test_doubt_says_how_many_laws_were_drawn(page: Page) -> None:
+    """By default a hundred, of which nine in ten decide."""
+    (said,) = [it for it in page.texts if "laws were drawn" in it]
+    assert said.startswith("100 laws were drawn. ")
+
+
 def test_intervals_are_those_of_the_item(whole: crn.PlannedItem, page: Page) -> None:
     """Each difference stands in a table, and is the label of its picture with both ends."""
     title = "Cost compared with today's policy, in the long run"
