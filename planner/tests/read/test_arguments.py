@@ -99,5 +99,7 @@ def test_no_code_is_said_twice() -> None:
     }
     assert len(sentences.WORDS) == len(made) + sum(map(len, tables))
     assert all(
-        sentences.WORDS[code] == pair for table in tables for code, pair in table.items()
+        sentences.WORDS[code] == pair
+        for table in tables
+        for code, pair in table.items()
     )
