@@ -371,12 +371,33 @@ def test_placed_is_suggested_no_longer(planner: Planner, shown: Shown) -> None:
     }
 
 
+@pytest.mark.parametrize("more", [0, 2 * PACK])
+@pytest.mark.parametrize("is_saved", [False, True])
+def test_no_less_than_the_plan_says_is_placed_once(
+    planner: Planner, shown: Shown, more: int, is_saved: bool
+) -> None:
+    """What was placed is not suggested again, nor placed with all orders, if it was as much as the plan says or more."""
+    orders = shown.lines
+    quantity = orders["0017"] + more
+    if is_saved:
+        shown.send(shown.form("0017"), change={"0017": str(quantity)})
+        shown = Shown(planner)
+    shown.send(shown.form("0017"), "/today/place", {"0017": str(quantity)})
+    own, other = {*shown.form("0017").values("item")}, Shown(planner)
+    assert other.lines == {name: orders[name] for name in orders.keys() - own}
+    other.send(other.forms[-2], "/today/place")
+    placed = [(it.item, it.quantity) for it in planner.desk.state.placed]
+    assert sorted(placed) == sorted((orders | {"0017": quantity}).items())
+    assert Shown(planner).lines == {}
+
+
 def test_what_did_not_come_stays_on_order(planner: Planner, shown: Shown) -> None:
-    """Of 30 placed items 12 came: 18 stay. What is not ticked stays whole, and more than was placed can't come."""
+    """Of 30 placed items 12 came: 18 stay, and all of them if none came. What is not ticked stays whole, and more than was
+    placed can't come."""
     shown.send(shown.form("0017"), "/today/place")
     placed = [*planner.desk.state.placed]
     (order,) = (it for it in placed if it.item == "0017")
-    for came, rest in (("31", 30), ("12", 18), ("", 0)):
+    for came, rest in (("31", 30), ("0", 30), ("12", 18), ("", 0)):
         form = Shown(planner).ending()
         fields = [(name, value) for name, value in form.fields if "came" not in name]
         fields += [(f"came {order.key}", came), ("order", order.key)]
