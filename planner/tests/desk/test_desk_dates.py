@@ -34,17 +34,34 @@ class Days:
         self.planner, self.day = planner, MADE_PLAN
         monkeypatch.setattr(kept, "now", lambda: f"{self.day} 08:00:00")
 
-    def drop(self, day: str, name: str, data: bytes) -> None:
-        """Drops a file on a day."""
+    def drop(self, day: str, name: str, data: bytes, way: str = "") -> None:
+        """Drops a file on a day, perhaps beside those that are there."""
         self.day = day
-        sent = self.planner.post("/files/drop", {"files": [file_of(data, name)]})
-        assert sent.status_code == 303
+        fields = {"files": [file_of(data, name)], "way": way}
+        assert self.planner.post("/files/drop", fields).status_code == 303
 
     def drop_stock(self, day: str, levels: Levels) -> None:
         self.drop(day, "stock.csv", table_of("stock", stock_of(levels)).read())
 
-    def drop_orders(self, day: str) -> None:
-        self.drop(day, "open.csv", table_of("qty on order", OPEN).read())
+    def drop_orders(self, day: str, way: str = "") -> None:
+        self.drop(day, "open.csv", table_of("qty on order", OPEN).read(), way)
+
+    def drop_masters(self, day: str, levels: Levels) -> None:
+        """Drops masters that say the stock, with columns and signs of their own."""
+        text = io.StringIO()
+        table = csv.writer(text, delimiter=";")
+        table.writerow(["item", "setup", "holding", "Soll", "available"])
+        for name, stock in stock_of(levels).items():
+            table.writerow([name, 1, 2, f"{stock}.000", 5])
+        masters = {"delimiter": ";", "decimal": {"stock": "."}}
+        self.planner.desk.keep_words(
+            {
+                "items": {"stock": "Soll"},
+                "stock": {"stock": "stock"},
+                "written": {"items": masters, "stock": {"decimal": {"stock": ","}}},
+            }
+        )
+        self.drop(day, "items.csv", text.getvalue().encode())
 
     @property
     def counts(self) -> list[str]:
@@ -133,24 +150,38 @@ def test_what_counts_has_a_day_and_a_size(days: Days, levels: Levels) -> None:
 def test_stock_of_newer_masters_counts(day: str, days: Days, levels: Levels) -> None:
     """Masters that came on a later day than a file of stock say the stock, by the columns and the signs of masters; on the same
     day they do not."""
-    text = io.StringIO()
-    table = csv.writer(text, delimiter=";")
-    table.writerow(["item", "setup", "holding", "Soll", "available"])
-    for name, stock in stock_of(levels).items():
-        table.writerow([name, 1, 2, f"{stock}.000", 5])
     file = table_of("stock", dict.fromkeys(levels, 99))
     days.drop("2026-11-30", "stock.csv", file.read())
-    masters = {"delimiter": ";", "decimal": {"stock": "."}}
-    days.planner.desk.keep_words(
-        {
-            "items": {"stock": "Soll"},
-            "stock": {"stock": "stock"},
-            "written": {"items": masters, "stock": {"decimal": {"stock": ","}}},
-        }
-    )
-    days.drop(day, "items.csv", text.getvalue().encode())
+    days.drop_masters(day, levels)
     is_newer = day == "2026-12-01"
     name = "items.csv" if is_newer else "stock.csv"
     assert days.counts[0].startswith(f"Stock of {day}: {name}, 18 rows")
     orders = expected(levels)
     assert Shown(days.planner, day=day).lines == (orders if is_newer else {})
+
+
+def test_masters_are_newer_than_each_file_of_stock(days: Days, levels: Levels) -> None:
+    """Masters that are newer than one of two files of stock do not say the stock. Those that are newer than both do."""
+    file = table_of("stock", dict.fromkeys(levels, 99)).read()
+    days.drop("2026-11-30", "old.csv", file)
+    days.drop("2026-12-01", "new.csv", file, "beside")
+    for day, orders in (("2026-12-01", {}), ("2026-12-02", expected(levels))):
+        days.drop_masters(day, levels)
+        assert Shown(days.planner, day=day).lines == orders
+
+
+def test_days_of_two_files(days: Days, levels: Levels) -> None:
+    """Two files of stock are of the day of the older one, and two of open orders of that of the newer one."""
+    rows, half = [*stock_of(levels).items()], len(levels) // 2
+    for day, part, way in (
+        ("2026-11-29", rows[:half], ""),
+        ("2026-12-01", rows[half:], "beside"),
+    ):
+        days.drop(day, "stock.csv", table_of("stock", dict(part)).read(), way)
+    days.drop_orders("2026-11-28")
+    days.drop_orders("2026-11-30", "beside")
+    old = Shown(days.planner, day="2026-12-01")
+    said = "The stock is of 2026-11-29, and the open orders are of 2026-11-30."
+    assert said in old.text and not old.lines
+    assert agreed(old).status_code == 303
+    assert Shown(days.planner, day="2026-12-01").lines == expected(levels)
