@@ -58,6 +58,23 @@ def test_risk_by_hand(case: dict[str, Any]) -> None:
     assert risk.value == pytest.approx(3 * short)
 
 
+@pytest.mark.parametrize(
+    "every, until, is_at_risk",
+    [
+        ("day", 2, False),
+        ("day", 3, True),
+        ("week", 17, False),
+        ("week", 18, True),
+        ("month", 76, False),
+        ("month", 77, True),
+    ],
+)
+def test_stock_ends_before_a_receipt(every: str, until: int, is_at_risk: bool) -> None:
+    """Five items last two and a half periods at a mean demand of 2: 2.5 days, 17.5 days, or 76.1 days of months."""
+    standing = standing_of(arrivals=[arrival(9, until)], every=every)
+    assert standing.risk.ends_before == is_at_risk
+
+
 AT_RISK = """item,on_order,overdue,days_late,next_receipt
 dear,9.0,0.0,0,2026-12-07
 "due, and low",0.0,0.0,0,

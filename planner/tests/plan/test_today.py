@@ -15,7 +15,7 @@ from hypothesis import given, strategies as some
 import crnplan as crn
 from crnplan.law import Law
 from crnplan.show.today_tables import OrdersToday
-from crnplan.plan.answer import Laws
+from crnplan.plan.answer import Laws, Month
 from crnplan.plan.standing import Standing
 from crnplan.plan.today import OrderGroup, Lying, Today, by_urgency, minimums_of
 from crnplan.read.bounds import OrderBounds
@@ -107,6 +107,66 @@ def test_an_order_is_due_below_s_alone() -> None:
         "no stock left",
         "below s",
     ]
+
+
+@pytest.mark.parametrize(
+    "day, every, lead, due",
+    [
+        # Of a lead time of 2 days, weeks, or months of 487/16 days, of which two are 60.875 days.
+        ("2026-11-27", "day", 2, "2026-11-29"),
+        ("2026-11-27", "week", 2, "2026-12-11"),
+        ("2026-11-27", "month", 2, "2027-01-27"),
+        ("2026-11-27", "month", 1, "2026-12-28"),
+        ("2026-11-30", "day", 1, "2026-12-01"),
+        ("2026-11-30", "day", 0, "2026-11-30"),
+    ],
+)
+def test_days_of_a_lead_time(day: str, every: str, lead: int, due: str) -> None:
+    """The mean lead time is in days by the length of a period, and an order of the day is due after it, rounded up."""
+    length = {"day": 1, "week": 7, "month": Fraction(487, 16)}[every]
+    laws = replace(LAWS, lead=Law((lead,), (1,)))
+    standing = standing_of(laws=laws, every=every)
+    standing = replace(standing, day=datetime.date.fromisoformat(day))
+    assert standing.lead_days == standing.risk.days == lead * length
+    assert str(standing.due) == due
+
+
+@pytest.mark.parametrize(
+    "day, every, month",
+    [
+        ("2026-11-01", "day", 11),
+        ("2026-11-30", "day", 11),
+        ("2026-12-01", "day", 12),
+        ("2026-12-31", "day", 12),
+        # A week is of the month of its Thursday: 26 November and 3 December.
+        ("2026-11-23", "week", 11),
+        ("2026-11-29", "week", 11),
+        ("2026-11-30", "week", 12),
+        ("2026-11-01", "month", 11),
+        ("2026-11-30", "month", 11),
+        ("2026-12-01", "month", 12),
+        ("2026-12-31", "month", 12),
+    ],
+)
+def test_levels_of_the_month_of_the_day(day: str, every: str, month: int) -> None:
+    """On the last day of a month the levels and the demand are still its own, and on the first one those of the next: s is
+    the number of the month."""
+    # The first periods of November, of December and of January. Days are numbered from 1 and weeks from 0, from the first
+    # Monday of year 1 on: 739920 days had gone by before November. Its first week begins on the 2nd.
+    firsts = {
+        "day": (739_921, 739_951, 739_982),
+        "week": (105_703, 105_707, 105_712),
+        "month": (2026 * 12 + 10, 2026 * 12 + 11, 2027 * 12),
+    }[every]
+    start, middle, end = firsts
+    calendar = Month(start, middle, 11, 22, 1.0), Month(middle, end, 12, 24, 2.0)
+    standing = standing_of(every=every)
+    assert standing.answer
+    answer = replace(standing.answer, calendar=calendar)
+    on = datetime.date.fromisoformat(day)
+    standing = replace(standing, answer=answer, day=on)
+    assert standing.levels == (month, 2 * month)
+    assert standing.mean == pytest.approx({11: 2, 12: 4}[month], abs=1e-3)
 
 
 NUMBERS = some.dictionaries(

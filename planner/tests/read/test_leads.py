@@ -4,6 +4,7 @@ from __future__ import annotations
 import datetime
 import random
 from collections.abc import Sequence
+from fractions import Fraction
 from pathlib import Path
 from typing import Any
 
@@ -100,6 +101,23 @@ def test_lead_times_of_a_catalogue(
     )
     assert remark.code == code and late in sentence(remark)
     assert not items["B"].remarks and not items["D"].remarks
+
+
+@pytest.mark.parametrize(
+    "every, stated", [("day", 2), ("week", 14), ("month", Fraction(487, 8))]
+)
+def test_stated_lead_times_are_in_days(every: str, stated: Fraction) -> None:
+    """Two periods are so many days: a month has 487/16. Receipts took 13 days and more: all took longer than 2 days, three
+    of five longer than 14 days, and none longer than 2 months."""
+    sales, masters, orders = tables({"A": "2"}, {"A": SEEN})
+    masters = masters.rename(columns={"lead (days)": f"lead ({every}s)"})
+    words: Any = {"every": every, "units": {"items": {"holding": every}}}
+    read = read_catalogue(sales, masters, orders, lead_from="masters", **words)
+    (item,) = items_of(read).values()
+    assert (item.leads, item.stated) == ((2,), stated)
+    (remark,) = (it for it in item.remarks if it.code == "lead as stated")
+    late = {"day": "100%", "week": "60%", "month": "0%"}[every]
+    assert f"{late} of them longer than the stated" in sentence(remark)
 
 
 def test_receipts_as_stated_are_not_said() -> None:
