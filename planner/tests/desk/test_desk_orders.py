@@ -24,6 +24,7 @@ from werkzeug.test import TestResponse
 
 import crnplan as crn
 from crnplan.desk import kept, orders as module
+from crnplan.desk.kept import State
 from crnplan.read.bounds import OrderBounds
 from planner.tests.conftest import Command
 from planner.tests.desk.conftest import MADE_PLAN, Planner, add_made_plan
@@ -47,11 +48,20 @@ def supplied(source: random.Random, name: str) -> made_catalogue.Pair:
     return replace(item, bounds=OrderBounds(PACK), **more), answer
 
 
+class Button(NamedTuple):
+    """A button of a form: where it sends the form, and its own field."""
+
+    to: str
+    name: str
+    value: str
+
+
 class Form(NamedTuple):
-    """A form of a page: where it is sent to, and its fields in their order."""
+    """A form of a page: where it is sent to, its fields in their order, and its buttons."""
 
     action: str
     fields: list[tuple[str, str]]
+    buttons: list[Button]
 
     def values(self, name: str) -> list[str]:
         """Returns the values of the fields of a name."""
@@ -59,21 +69,32 @@ class Form(NamedTuple):
 
 
 class Forms(HTMLParser):
-    """Reads the forms of a page as a browser sends them, with no button."""
+    """Reads the forms of a page as a browser sends them, with no button, and the texts of all buttons."""
 
     def __init__(self, text: str) -> None:
         super().__init__()
-        self.forms = list[Form]()
+        self.forms, self.texts = list[Form](), list[str]()
+        self.is_in_button = False
         self.feed(text)
         self.close()
 
     def handle_starttag(self, tag: str, attrs: list[tuple[str, str | None]]) -> None:
         its = {name: value or "" for name, value in attrs}
         if tag == "form":
-            self.forms.append(Form(its["action"], []))
+            self.forms.append(Form(its["action"], [], []))
         is_sent = its.get("type") != "checkbox" or "checked" in its
         if tag == "input" and is_sent:
             self.forms[-1].fields.append((its["name"], its.get("value", "")))
+        self.is_in_button = tag == "button"
+        if self.is_in_button:
+            own = its.get("name", ""), its.get("value", "")
+            to = its.get("formaction", self.forms[-1].action)
+            self.forms[-1].buttons.append(Button(to, *own))
+
+    def handle_data(self, data: str) -> None:
+        if self.is_in_button:
+            self.texts.append(data)
+        self.is_in_button = False
 
 
 class Shown:
@@ -84,7 +105,10 @@ class Shown:
         self.answer = planner.get("/today", **{"day": DAY, **query})
         assert self.answer.status_code == 200, self.answer.text
         self.text = self.answer.text
-        self.forms = Forms(self.text).forms
+        read = Forms(self.text)
+        self.forms = read.forms
+        buttons = [(form, it) for form in read.forms for it in form.buttons]
+        self.buttons = [*zip(read.texts, buttons, strict=True)]
 
     @property
     def cards(self) -> list[str]:
@@ -123,7 +147,9 @@ class Shown:
         *more: tuple[str, str],
         without: str = "",
     ) -> TestResponse:
-        """Sends a form, perhaps elsewhere, with other quantities of items, more fields, and an item without a tick."""
+        """Sends a form, perhaps where one of its buttons does, with other quantities of items, more fields, and an item without
+        a tick."""
+        assert to == "" or to in [it.to for it in form.buttons]
         fields, item = defaultdict[str, list[str]](list), ""
         for name, value in [*form.fields, *more]:
             if name == "item":
@@ -133,6 +159,23 @@ class Shown:
             if (name, value) != ("ordered", without):
                 fields[name].append(value)
         return self.planner.post(to or form.action, dict(fields))
+
+    def press(
+        self,
+        text: str,
+        item: str = "",
+        change: Mapping[str, str] | None = None,
+        *more: tuple[str, str],
+    ) -> State:
+        """Presses the first button with a text, of the form with an item, and returns what the desk then keeps."""
+        form, button = next(
+            (form, button)
+            for said, (form, button) in self.buttons
+            if said == text and (not item or item in form.values("item"))
+        )
+        own = [(button.name, button.value)] if button.name else []
+        assert self.send(form, button.to, change, *more, *own).status_code == 303
+        return self.planner.desk.state
 
 
 def refusal(answer: TestResponse) -> str:
@@ -336,7 +379,7 @@ def test_unknown_items_are_refused(planner: Planner, shown: Shown) -> None:
     ):
         assert said in refusal(shown.add(item, amount))
     assert Shown(planner).forms == shown.forms
-    assert shown.send(shown.forms[1], "/today/other").status_code == 405
+    assert planner.post("/today/other", dict(shown.forms[1].fields)).status_code == 405
     for query in (
         {"day": "x"},
         {"day": "9999-12-31"},
@@ -385,7 +428,7 @@ def test_no_less_than_the_plan_says_is_placed_once(
     shown.send(shown.form("0017"), "/today/place", {"0017": str(quantity)})
     own, other = {*shown.form("0017").values("item")}, Shown(planner)
     assert other.lines == {name: orders[name] for name in orders.keys() - own}
-    other.send(other.forms[-2], "/today/place")
+    other.press("Mark all orders as placed")
     placed = [(it.item, it.quantity) for it in planner.desk.state.placed]
     assert sorted(placed) == sorted((orders | {"0017": quantity}).items())
     assert Shown(planner).lines == {}
@@ -401,7 +444,7 @@ def test_what_did_not_come_stays_on_order(planner: Planner, shown: Shown) -> Non
         form = Shown(planner).ending()
         fields = [(name, value) for name, value in form.fields if "came" not in name]
         fields += [(f"came {order.key}", came), ("order", order.key)]
-        form = Form(form.action, [*fields, ("way", "received")])
+        form = form._replace(fields=[*fields, ("way", "received")])
         sent = Shown(planner).send(form)
         assert sent.status_code == (400 if came == "31" else 303)
         left = {it.item: it.quantity for it in planner.desk.state.placed}
@@ -422,6 +465,41 @@ def test_all_orders_are_placed(planner: Planner, shown: Shown) -> None:
     shown.send(shown.forms[-2], "/today/place")
     placed = {order.item: order.quantity for order in planner.desk.state.placed}
     assert (placed, Shown(planner).lines) == (shown.lines, {})
+
+
+def test_buttons_of_quantities(planner: Planner, shown: Shown) -> None:
+    """Each button is pressed by its text: it keeps the quantities of its own form, or those of the plan again."""
+    one, more = "0017", "<b>bold</b>"
+    state = shown.press("Save", one, {one: "36"})
+    assert (state.quantities, state.placed) == ({one: 36}, [])
+    state = Shown(planner).press("Go back to the plan's quantities")
+    assert (state.quantities, state.placed) == ({}, [])
+    offered = [it for it in shown.form(more).values("item") if it not in shown.lines]
+    state = Shown(planner).press("Add", more)
+    # S of each made item is 18 above s, which is three packs.
+    assert (state.quantities, state.placed) == ({offered[0]: 18}, [])
+    (form,) = [form for form in shown.forms if form.values("alone")]
+    assert form.buttons == [Button("/today/save", "", "")]
+
+
+def test_buttons_of_orders(planner: Planner, shown: Shown) -> None:
+    """Each button is pressed by its text: it places the lines of its own form, or all orders, or ends one that is ticked."""
+    orders = shown.lines
+    less, back, filed = shown.form("0017").values("item")
+    state = shown.press("Mark the ticked ones as placed", less, {less: "6"})
+    own = {less: 6, back: orders[back], filed: orders[filed]}
+    assert {it.item: it.quantity for it in state.placed} == own
+    state = Shown(planner).press("Mark all orders as placed")
+    assert {it.item: it.quantity for it in state.placed} == orders | own
+    keys = {it.item: it.key for it in state.placed}
+    # Less than the plan says was placed on this day: the rest is not suggested, also once that is received.
+    Shown(planner).press("Received", "", None, ("order", keys[less]))
+    assert Shown(planner).lines == {}
+    Shown(planner).press("Take back", "", None, ("order", keys[back]))
+    assert Shown(planner).lines == {back: orders[back]}
+    dropped(planner, "on_order", {filed: orders[filed]})
+    state = Shown(planner).press("Take what is or was in a file off this list")
+    assert {it.item for it in state.placed} == orders.keys() - {less, back, filed}
 
 
 def test_two_browsers(planner: Planner, shown: Shown) -> None:
