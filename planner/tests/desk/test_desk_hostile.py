@@ -15,7 +15,7 @@ from crnplan.desk.front import PAGES, Front
 from crnplan.desk.kept import FILES, STATE, UNKNOWN, Begun
 from crnplan.errors import CrnplanError, Refused
 from crnplan.drawing.rendering import rendered
-from planner.tests.desk.conftest import Planner, add_made_plan, file_of, opened
+from planner.tests.desk.conftest import HOST, Planner, add_made_plan, file_of, opened
 from planner.tests.desk.monday import warehouses
 
 DEMAND = b"item,date,quantity\nA,2026-11-02,3\n"
@@ -200,3 +200,34 @@ def test_values_are_refused_in_words(full: Planner) -> None:
                 faults.append((method, path, fields, answer.status_code))
     assert faults == []
     assert full.get(f"/{PAGES[0]}").status_code == 200
+
+
+def sent_by(text: str) -> list[tuple[str, str]]:
+    """Returns the method and the path of each form of a template, and of each button that sends its form elsewhere. A value that
+    is put in is any word."""
+    forms = re.findall(r'<form method="(\w+)" action="([^"]*)"', text)
+    assert len(forms) == text.count("<form")
+    elsewhere = [("post", path) for path in re.findall('formaction="([^"]*)"', text)]
+    return [
+        (method.upper(), re.sub("{{.*?}}", "x", path).partition("#")[0])
+        for method, path in forms + elsewhere
+    ]
+
+
+def test_forms_are_sent_where_the_desk_takes_them(planner: Planner) -> None:
+    """Each form and button of a page has an address that takes it, and each address that takes forms has one of these."""
+    rules = planner.client.application.url_map
+    bound = rules.bind(HOST)
+    sent = [it for path in templates() for it in sent_by(path.read_text("utf-8"))]
+    assert [it for it in sent if not bound.test(it[1], it[0])] == []
+    named = set()
+    for method, path in sent:
+        rule, words = bound.match(path, method, return_rule=True)
+        if method == "POST":
+            named.add(re.sub("<any[^>]*>", str(words.get("way")), rule.rule))
+    takes = set()
+    for rule in rules.iter_rules():
+        ways = re.findall(r"\w+", "".join(re.findall(r"any\((.*?)\)", rule.rule)))
+        if "POST" in (rule.methods or ()):
+            takes |= {re.sub("<any[^>]*>", way, rule.rule) for way in ways or [""]}
+    assert named == takes
