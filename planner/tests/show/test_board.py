@@ -255,9 +255,16 @@ def test_loss_and_nothing(tmp_path: Path) -> None:
     assert not {"By class", "Verdicts"} & page.tables.keys()
 
 
-def test_value_of_what_is_left_out(tmp_path: Path) -> None:
-    """5 items of 30 lie in stock, and 4 were asked for in 3 weeks. The most frequent reasons stand with their number."""
-    item, _ = pair(stock=Fraction(5), price=Fraction(30), counts=(0, 3, 1))
+@pytest.mark.parametrize(
+    "counts, unknown", [((0, 3, 1), ()), ((0, 3, 8, 1), (2,)), ((8, 0, 3, 1), (0,))]
+)
+def test_value_of_what_is_left_out(
+    tmp_path: Path, counts: tuple[int, ...], unknown: tuple[int, ...]
+) -> None:
+    """5 items of 30 lie in stock, and 4 were asked for in the 3 weeks whose demand is known: that are 4 / 3 * 30 a week.
+    The most frequent reasons stand with their number."""
+    facts = {"counts": counts, "unknown": unknown}
+    item, _ = pair(stock=Fraction(5), price=Fraction(30), **facts)
     fault = Remark("no policy", {"fill": 0.99})
     words = page_of(tmp_path / "plan", 12, change=(item, fault)).words
     assert "2 of 14 items have no plan" in words
