@@ -56,6 +56,11 @@ class Button(NamedTuple):
     value: str
 
 
+def supplier_of(name: str) -> str:
+    """Returns the supplier of a made item."""
+    return supplied(random.Random(1), name)[0].supplier
+
+
 class Form(NamedTuple):
     """A form of a page: where it is sent to, its fields in their order, and its buttons."""
 
@@ -215,8 +220,11 @@ def levels(
 
 
 def stock_of(levels: Mapping[str, tuple[int, int]]) -> dict[str, int]:
-    """Returns the stock of items: that of each hostile name is 10 below s, and some of one item are owed."""
-    stock = {name: s - 10 * (name in NAMES) for name, (s, _) in levels.items()}
+    """Returns the stock of items: that of each hostile name is 10 below s, that of others 1 above, and some of one item are
+    owed."""
+    stock = {
+        name: s - 10 if name in NAMES else s + 1 for name, (s, _) in levels.items()
+    }
     return stock | {OWED: -2}
 
 
@@ -246,7 +254,7 @@ def test_sums_of_a_loop(planner: Planner, levels: Levels) -> None:
     worth = f"{float(sum(orders.values()) * PRICE):,.2f}"
     assert shown.cards[:3] == [str(len(orders)), worth, str(owed)]
     for name in NAMES:
-        supplier = supplied(random.Random(1), name)[0].supplier
+        supplier = supplier_of(name)
         own = {other for other in NAMES if len(other) % 2 == len(name) % 2}
         assert {*shown.form(name).values("item")} >= own
         assert (
@@ -257,6 +265,32 @@ def test_sums_of_a_loop(planner: Planner, levels: Levels) -> None:
         "/today", query_string={"day": DAY}, headers={"Accept-Language": "de"}
     )
     assert Forms(german.text).forms == shown.forms
+
+
+def test_worth_of_whole_packs(planner: Planner, levels: Levels) -> None:
+    """Each line, each order and each addition is worth the whole packs that are ordered: no order up to S is whole packs by
+    itself."""
+    orders, text = expected(levels), Shown(planner).text
+    lines = re.findall(
+        '<input type="hidden" name="item" value="([^"]*)"></th>(.*?)</tr>', text, re.S
+    )
+    worths = {
+        html.unescape(name): re.findall("<td>([0-9,.]+)</td>", cells)[-1]
+        for name, cells in lines
+    }
+    assert worths == {
+        name: f"{float(items * PRICE):,.2f}" for name, items in orders.items()
+    }
+    for name in NAMES[:2]:
+        own = [other for other in orders if supplier_of(other) == supplier_of(name)]
+        worth = float(sum(orders[other] for other in own) * PRICE)
+        assert f": {len(own)} items, worth {worth:,.2f}." in text
+    additions = re.findall(
+        'name="quantity" value="([0-9]+)"><bdi>.*?: [0-9]+, worth ([0-9,.]+) <', text
+    )
+    # S of each made item is 18 above s, and the stock 1 above.
+    wanted = packed(18 - 1)
+    assert {*additions} == {(str(wanted), f"{float(wanted * PRICE):,.2f}")}
 
 
 @pytest.fixture
