@@ -26,7 +26,7 @@ from crnplan.curve.exchange_curve import (
     points_of,
 )
 from crnplan.curve.gathered import CANDIDATES, HULLS, Gathered
-from crnplan.curve.parts import Point
+from crnplan.curve.parts import AS_IS, Point
 from crnplan.plan.catalogue import ANSWERS, planned_folder
 from crnplan.plan.question import Terms
 from crnplan.read.catalogue_reading import READ
@@ -149,6 +149,18 @@ def test_named_points_are_as_good_as_many_small_orders(
     assert max(stock.orders, service.orders) <= today.orders * (1 + 1e-9)
     assert stock.fill > today.fill and stock.value <= today.value * (1 + 1e-9)
     assert service.fill >= today.fill - 1e-9 and service.value < today.value
+
+
+def test_a_today_on_the_curve(twenty: Path) -> None:
+    """Nothing is better than a point of today that is on the curve: that is both points, with no other orders."""
+    known = drawn(twenty).gathered
+    ladder = known.items.ladder()
+    for place in range(30, 60, 5):
+        today = ladder.with_price(place).point
+        points, missing = named_points(known, today)
+        assert not missing
+        for name in ("same stock", "same service"):
+            assert (points[name].point, points[name].dearer) == (today, AS_IS)
 
 
 def named_points(known: Gathered, today: Point) -> Any:

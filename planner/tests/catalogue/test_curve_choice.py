@@ -29,6 +29,7 @@ from crnplan.curve.candidates import (
 )
 from crnplan.curve.budget import Budget, chosen_by, gap_of
 from crnplan.curve.exchange import AS_IS, Items
+from crnplan.curve.exchange_curve import curve_points, gap_text
 from crnplan.curve.parts import UNMET, VALUE, Dearer, CurvePart, Point
 from crnplan.errors import Refused
 from crnplan.plan.catalogue import planned_folder
@@ -214,6 +215,40 @@ def test_the_curve_is_the_best(seed: int) -> None:
         dear = point._replace(cost=1.2 * point.cost)
         assert gap_of(items, dear) == pytest.approx(0.2)
     assert items.least_cost(point, Dearer(orders=0.0)) == items.least_cost(point, AS_IS)
+
+
+@pytest.mark.parametrize("seed", range(4))
+def test_points_of_the_curve_are_those_of_every_choice(seed: int) -> None:
+    """The curve has for each price of the grid the best of all choices, if that is another one than for the price before:
+    with the price itself, and nothing beyond the grid."""
+    items, choices = every_choice(seed)
+    values, unmet, orders, cost = choices
+    wanted, last = list[tuple[float, int]](), -1
+    for price in PRICES.tolist():
+        best = int((cost + price * unmet).argmin())
+        if best != last:
+            wanted.append((price, best))
+        last = best
+    found = curve_points(items)
+    assert [price for price, _ in found] == [price for price, _ in wanted]
+    assert len(found) > 4
+    for (_, point), (_, best) in zip(found, wanted):
+        fill = 1 - unmet[best] / asked_of(items)
+        assert point == pytest.approx((values[best], fill, orders[best], cost[best]))
+
+
+@pytest.mark.parametrize(
+    "gap, text",
+    [
+        (0.0, "0.00%"),
+        (0.0123, "1.23%"),
+        (0.01230001, "1.24%"),
+        (1.5, "150.00%"),
+        (math.inf, "not known"),
+    ],
+)
+def test_gaps_are_rounded_up(gap: float, text: str) -> None:
+    assert gap_text(gap) == text
 
 
 def test_variants() -> None:
