@@ -259,7 +259,8 @@ def downloaded(walk: Walk) -> dict[str, list[list[str]]]:
 
 
 def order(walk: Walk, crnplan: Command, out: Path) -> None:
-    """Changes an order of the day, and downloads what is ordered: that is what the command says."""
+    """Changes an order of the day, and downloads what is ordered: that is what the command says. Once the order is placed, it is
+    suggested no longer."""
     walk.go(f"today?day={MONDAY}")
     (field, *_) = walk.all("input[name=quantity][step]")
     more = int(str(field.get_attribute("value"))) + int(
@@ -283,6 +284,10 @@ def order(walk: Walk, crnplan: Command, out: Path) -> None:
         if cells[0] == item or item in cells
     ]
     assert str(more) in row.values()
+    walk.press("Mark the ticked ones as placed", "main section form")
+    rows = walk.all("section[aria-labelledby=placed] tbody tr")
+    assert [item, f"{more:,}"] in [placed.text.split()[1:3] for placed in rows]
+    assert not walk.all(f"input[name=ordered][value='{item}']:checked")
 
 
 @pytest.fixture
