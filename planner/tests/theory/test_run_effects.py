@@ -1,6 +1,7 @@
 """Compares what the start and the end of a run add with a chain of all states, and with runs of the program."""
 from __future__ import annotations
 
+import itertools
 import math
 from collections.abc import Sequence
 from dataclasses import replace
@@ -83,6 +84,70 @@ def test_loops(case: str, start: tuple[int, int, int]) -> None:
     assert start_bias(asked).biases == pytest.approx(wanted, abs=1e-5 * LONG)
     settled, later = (start_bias(replace(asked, periods=it)) for it in (500, 700))
     assert later.biases == pytest.approx(settled.biases, abs=1e-7)
+
+
+@pytest.mark.usefixtures("each_way")
+@pytest.mark.parametrize("initial", [60, 53, 0])
+def test_a_run_that_is_too_short_for_an_order(initial: int) -> None:
+    """The stock lasts longer than the run, whatever is asked for, or after an order of the first review."""
+    for periods in (1, 9, 20, 50):
+        asked = asked_of(scenario_of([1, 1], [2]), 0, 60, initial, periods)
+        wanted = biases_of_chain(asked)[-1:]
+        assert start_bias(asked).biases == pytest.approx(wanted, abs=1e-5 * periods)
+
+
+@pytest.mark.usefixtures("each_way")
+@pytest.mark.parametrize("name", ["sums_one_by_one", "sums_by_doubling"])
+@pytest.mark.parametrize("count", [1, 2, 3, 4, 5, 7, 8, 20])
+def test_laws_of_sums(count: int, name: str) -> None:
+    """The chances of 0 to 6 are those of all sums, one by one: of less than so many numbers, and of no more than can be
+    within the width. A number is 1, 2 or 4, else it is beyond the width."""
+    chances = {1: 0.5, 2: 0.25, 4: 0.125}
+    law, size = np.zeros(7), 7
+    law[[*chances]] = [*chances.values()]
+    found = getattr(reviews, name)(law, count)
+    assert min(count, size) <= len(found) <= count
+    for number, row in enumerate(found):
+        wanted = np.zeros(size)
+        for each in itertools.product(chances, repeat=min(number, size)):
+            if sum(each) < size and number < size:
+                wanted[sum(each)] += math.prod(chances[it] for it in each)
+        assert row == pytest.approx(wanted, abs=1e-15)
+
+
+@pytest.mark.usefixtures("each_way")
+@pytest.mark.parametrize("trials, most", [(1, 1), (5, 3), (5, 5), (5, 9)])
+def test_counts_are_binomial(trials: int, most: int) -> None:
+    """A row has the chances of 0, 1, .. events in as many trials as there are rows before, of which a third has one."""
+    found = reviews.counts_of(1 / 3, trials, most)
+    assert found.shape == (trials, most)
+    for row, events in np.ndindex(trials, most):
+        wanted = math.comb(row, events) * 2.0 ** (row - events) / 3**row
+        assert found[row, events] == pytest.approx(wanted)
+
+
+@pytest.mark.usefixtures("each_way")
+def test_chances_of_renewals() -> None:
+    """They are those of closed forms: of steps of 1 or 2 as likely, of steps of 2 alone, of none, and of steps of any size,
+    each half as likely as the one before, after half of which all ends. Feller, volume I, section XIII.3.
+    """
+    places = np.arange(200)
+    first = np.eye(1, 200)[0]
+    cases = {
+        (1.0, -0.5, -0.5): 2 / 3 + (-0.5) ** places / 3,
+        (1.0, 0.0, -1.0): 1.0 - places % 2,
+        (1.0,): first,
+    }
+    ending = (1.0, *(-0.25 * 0.5 ** places[:-1]))
+    cases[ending] = np.concatenate([[1.0], 0.25 * 0.75 ** places[:-1]])
+    for divisor, wanted in cases.items():
+        found = reviews.quotient(first, np.array(divisor))
+        assert found == pytest.approx(wanted, rel=1e-9, abs=1e-12)
+        # Another walk begins after 150 steps, when the chances of the first one have settled.
+        both = reviews.quotient(first + np.roll(first, 150), np.array(divisor))
+        later = np.concatenate([np.zeros(150), wanted[:50]])
+        assert both == pytest.approx(wanted + later, rel=1e-9, abs=1e-12)
+        assert not reviews.quotient(0 * first, np.array(divisor)).any()
 
 
 def test_means_of_runs(program: Path, top: Path) -> None:

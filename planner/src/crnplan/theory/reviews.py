@@ -54,7 +54,10 @@ def quotient(series: Floats, divisor: Floats) -> Floats:
     """
     found = series.copy()
     reach = len(divisor) - 1
-    end = np.flatnonzero(series)[-1]
+    places = np.flatnonzero(series)
+    if len(places) == 0 or reach == 0:  # nothing is divided, or it is by 1
+        return found
+    end = places[-1]
     for place in range(len(found) - 1):
         if place % LOOK_EVERY == 0 and place > max(reach, end):
             last = found[place - reach : place]
