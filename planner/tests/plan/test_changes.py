@@ -1,15 +1,19 @@
 """Tests what changes since an earlier plan come to: gains and sums by hand."""
 from __future__ import annotations
 
+import random
 from collections.abc import Sequence
 from dataclasses import replace
 
 import pytest
 
-from crnplan.plan.answer import Figures, LawFacts
+from crnplan.plan import changes
+from crnplan.plan.answer import Figures, LawFacts, Month
 from crnplan.plan.backtest.outcomes import Outcome
-from crnplan.plan.changes import Change, ChangeSums, Since, SinceSums
+from crnplan.plan.changes import Change, ChangeSums, PlannedTwice, Since, SinceSums
+from crnplan.plan.how import Settings
 from crnplan.remarks import Remark
+from planner.tests.show.made_catalogue import made_pair
 
 LAW = LawFacts("poisson", 0.5, None, 5.0, 2.0)  # 5 items a period
 EARLIER = Figures(3, 9, 10.0, 0.75, 0.1, 4.0, 0.5)
@@ -59,7 +63,7 @@ def test_gain_by_hand(change: Change, gain: float | None) -> None:
 
 def test_sums_of_changes() -> None:
     """What moved items gain is added up, and what damped ones give up; no other counts. A reason counts once an item."""
-    changes = [
+    several = [
         change_of(CHEAP, reasons=["new rows", "other law", "new rows"]),
         change_of(DEAR, reasons=["other law"]),
         change_of(EARLIER, CHEAP, kind="damped"),
@@ -67,7 +71,7 @@ def test_sums_of_changes() -> None:
         change_of(CHEAP, kind="same"),
         change_of(None, before=None, kind="gone"),
     ]
-    sums = ChangeSums.of(changes)
+    sums = ChangeSums.of(several)
     assert (sums.gained, sums.given_up) == (2.5 - 2, 2.5 + 3)
     assert sums.kinds == {"moved": 2, "damped": 2, "same": 1, "gone": 1}
     assert sums.reasons == {"new rows": 1, "other law": 2}
@@ -111,3 +115,20 @@ def test_nothing_was_asked_for_since() -> None:
     unasked = replace(quiet, mean=0.0)
     assert SinceSums.of([]) is None
     assert SinceSums.of([quiet, unasked]) is None
+
+
+@pytest.mark.parametrize("levels, kind", [((3, 11), "same"), ((4, 13), "moved")])
+def test_kind_of_a_season(levels: tuple[int, int], kind: str) -> None:
+    """The record ends before period 1060: what is chosen now is compared with the earlier levels of that period's month, and
+    not of the month before."""
+    item, answer = made_pair(random.Random(1), "it")
+    item = replace(item, counts=(0, 3, 1) * 20, first=1000)
+    months = Month(1055, 1060, 4, 13, 1.0), Month(1060, 1065, 3, 11, 1.0)
+    chosen = replace(answer.chosen, point=levels[0], level=levels[1])
+    pair = PlannedTwice(
+        (item, replace(answer, calendar=months)),
+        (item, replace(answer, chosen=chosen, calendar=months)),
+        None,
+    )
+    change = changes.change_of(pair, Settings(), 1060, ())
+    assert (change.kind, change.since) == (kind, None)

@@ -240,6 +240,8 @@ def test_what_came_since_is_that_of_the_known_periods(program: Path) -> None:
     )
     assert since and same and (since.first, same.first) == (41, 39)
     assert since.demands == (*item.counts[41:45], *item.counts[46:])
+    known = [*item.counts[:3], *item.counts[4:40], *since.demands]
+    assert since.mean == pytest.approx(sum(known) / len(known))
     assert dataclasses.replace(since, first=39) == same
 
 
