@@ -132,3 +132,16 @@ def test_kind_of_a_season(levels: tuple[int, int], kind: str) -> None:
     )
     change = changes.change_of(pair, Settings(), 1060, ())
     assert (change.kind, change.since) == (kind, None)
+
+
+@pytest.mark.parametrize("levels, is_earlier", [((3, 9), 1), ((3, 8), 0)])
+def test_policy_of_today_by_hand(levels: tuple[int, int], is_earlier: int) -> None:
+    """It is said whether today's policy has become that of the earlier plan. Lead times have their means."""
+    item, _ = made_pair(random.Random(1), "it")
+    old = replace(item, levels=(1, 5), leads=(1, 2, 6))
+    new = replace(item, levels=levels, leads=(4, 5))
+    today = {"s": levels[0], "S": levels[1], "earlier": is_earlier}
+    assert [*changes.masters_of(old, new, (3, 9))] == [
+        Remark("other lead times", {"before": 3, "after": 4.5, "seen": 2}),
+        Remark("other policy today", today),
+    ]
