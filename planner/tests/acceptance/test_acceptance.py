@@ -184,7 +184,8 @@ def test_from_exports_to_orders(
 
 
 def test_a_folder_of_exports(tmp_path: Path, crnplan: Command) -> None:
-    """The command says what each file is, leaves out what crnplan has written, and asks about a list of names."""
+    """The command says what each file is, leaves out what crnplan has written, and asks about a list of names and
+    about a table of two kinds, unless it is told to leave that out."""
     wide = next(case for case in CASES["case"] if "wide" in case["demand"])
     written(tmp_path, wide)
     (tmp_path / "decisions.csv").write_text("item,s_chosen,S_chosen\nA,20,50\n")
@@ -198,6 +199,10 @@ def test_a_folder_of_exports(tmp_path: Path, crnplan: Command) -> None:
         ("decisions", "left out, since crnplan has written it"),
     ):
         assert f"{name}.csv: {what}" in told.errors
-    (tmp_path / "names.csv").write_text("item,description\nA,Bolt\n")
-    told = crnplan("plan", tmp_path, "--check")
-    assert told.refuses("names.csv: its columns are those of no table")
+    # Stock and open orders may have these columns.
+    for heading in ("item,description", "item,quantity"):
+        (tmp_path / "names.csv").write_text(f"{heading}\nA,5\n")
+        told = crnplan("plan", tmp_path, "--check")
+        assert told.refuses("names.csv: its columns are those of no table")
+    told = crnplan("plan", tmp_path, f"none={tmp_path / 'names.csv'}", "--check")
+    assert told.status == 0 and "names.csv: left out, as was said" in told.errors
