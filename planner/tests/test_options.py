@@ -1,9 +1,12 @@
 """Tests that each option of a command and each argument of a call that is declared is used, and has its help."""
 from __future__ import annotations
 
+from pathlib import Path
+
 import pytest
 
 from crnplan.cli import COMMANDS, options_of
+from crnplan.errors import Refused
 from crnplan.options import CALL, KINDS, declared, option
 from crnplan.vocabulary import Word
 from planner.tests.conftest import Command
@@ -55,3 +58,10 @@ def test_references() -> None:
     assert "left_out" in option("today", "table").kind.choices
     with pytest.raises(KeyError):
         option("common", "nothing")
+
+
+def test_a_folder_is_no_file(tmp_path: Path) -> None:
+    word = option("today", "xlsx")
+    with pytest.raises(Refused, match="is a folder.*name a file"):
+        word.meant(tmp_path)
+    assert word.meant(tmp_path / "new.xlsx") == tmp_path / "new.xlsx"

@@ -8,7 +8,7 @@ from __future__ import annotations
 
 import re
 import tomllib
-from collections.abc import Callable, Iterable, Mapping
+from collections.abc import Callable, Mapping
 from functools import partial
 from pathlib import Path
 from typing import Any
@@ -31,12 +31,6 @@ Derive = Callable[[Facts], object]
 def counted(count: int, noun: str) -> str:
     """Returns a number of things, as `1,000 items`."""
     return f"{count:,} {noun}" if count == 1 else f"{count:,} {noun}s"
-
-
-def listed(parts: Iterable[str], last: str) -> str:
-    """Returns parts as one text, with commas, and a word before the last one."""
-    *first, end = parts
-    return f"{', '.join(first)} {last} {end}" if first else end
 
 
 def exactness(step: int | None) -> str:
