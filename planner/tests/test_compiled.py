@@ -53,6 +53,8 @@ def installed(
 
     monkeypatch.setattr(config, "CACHE_DIR", "")
     monkeypatch.setenv("XDG_CACHE_HOME", str(tmp_path / "caches"))
+    # Kept bytecode would be that of another text of the same second and size.
+    monkeypatch.setattr(sys, "dont_write_bytecode", True)
 
     def install(
         folder: str, text: str = LOOPS, share: float = 2, name: str = "loops"

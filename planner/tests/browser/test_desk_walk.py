@@ -285,8 +285,12 @@ def order(walk: Walk, crnplan: Command, out: Path) -> None:
     ]
     assert str(more) in row.values()
     walk.press("Mark the ticked ones as placed", "main section form")
-    rows = walk.all("section[aria-labelledby=placed] tbody tr")
-    assert [item, f"{more:,}"] in [placed.text.split()[1:3] for placed in rows]
+
+    def is_placed() -> bool:
+        rows = walk.all("section[aria-labelledby=placed] tbody tr")
+        return [item, f"{more:,}"] in [placed.text.split()[1:3] for placed in rows]
+
+    wait_for(lambda: walk.seen(is_placed))
     assert not walk.all(f"input[name=ordered][value='{item}']:checked")
 
 
