@@ -2,9 +2,11 @@
 from __future__ import annotations
 
 import contextlib
+import io
 import json
 import math
 import operator
+import tempfile
 from collections import Counter
 from collections.abc import Collection, Iterator, Mapping, Sequence
 from dataclasses import replace
@@ -251,6 +253,9 @@ def file(name: str) -> Response:
         return whole_page(plan.path, name)
     if name != WORKBOOK:
         return send_from_directory(plan.path.absolute(), name, as_attachment=True)
-    path = front().desk.folder.room() / WORKBOOK
-    plan.to_excel(path)
-    return send_file(path, as_attachment=True)
+    # Each answer has a file of its own: another plan may be downloaded meanwhile.
+    with tempfile.TemporaryDirectory() as room:
+        path = Path(room) / WORKBOOK
+        plan.to_excel(path)
+        data = io.BytesIO(path.read_bytes())
+    return send_file(data, download_name=WORKBOOK, as_attachment=True)
