@@ -31,10 +31,9 @@ CASES = "cases"
 LOCK = "serial_lock"
 # The properties of a run that have which lines are run, and what traces them; and how the names of the tests begin whose
 # lines count: all that call crnplan in this process. Others would take twice the processor time, and so would those in a
-# browser and others that take long, whose lines others run: not even the processes that they start are measured, unless it
-# is asked which test runs a line.
+# browser and others that take long, whose lines others run: not even the processes that they start are measured.
 MEASURED, TRACER = "measured_lines", "tracer"
-COUNTED = "planner/", "tests/documents/"
+COUNTED = "planner/", "tests/documents/", "tests/tools/test_planner_"
 UNMEASURED = (
     "planner/tests/browser/",
     "planner/tests/catalogue/test_interrupted.py",
@@ -43,8 +42,11 @@ UNMEASURED = (
     "planner/tests/read/test_tiny.py",
     "tests/documents/test_commands.py",
 )
-# By this variable a process of Python is measured from its start.
-STARTED = "COVERAGE_PROCESS_START"
+# By these variables a process of Python is measured from its start, and knows the test that has started it.
+STARTED, TEST = "COVERAGE_PROCESS_START", "CRNPLAN_TEST"
+# The processor seconds of each test, and those whose lines others run.
+SPENT = pytest.StashKey[dict[str, float]]()
+LEFT_OUT = pytest.StashKey[frozenset[str]]()
 # A worker of a parallel run has at most so many tests waiting, and gets more if half of them are done.
 MOST_WAITING = 6
 # A failure names so many of its cases, and says how many more there are.
@@ -72,7 +74,18 @@ def pytest_addoption(parser: pytest.Parser) -> None:
     group.addoption(
         "--by-test",
         action="store_true",
-        help="with --lines, keep which test runs a line",
+        help="with --lines, measure those tests too that take long",
+    )
+    group.addoption(
+        "--mapped",
+        action="store_true",
+        help="with --lines, measure no test whose lines others run, by the map that the last gate has kept",
+    )
+    group.addoption(
+        "--only",
+        metavar="FILE",
+        type=Path,
+        help="run those tests and files of tests alone that FILE names, one a line",
     )
     group.addoption(
         "--free",
@@ -92,11 +105,16 @@ def pytest_configure(config: pytest.Config) -> None:
     settings.register_profile("gate", derandomize=True, **shared)
     settings.register_profile("free", print_blob=True, **shared)
     settings.load_profile("free" if config.getoption("--free") else "gate")
-    if config.getoption("--lines"):
+    config.stash[SPENT], config.stash[LEFT_OUT] = {}, frozenset()
+    if folder := config.getoption("--lines"):
         from planner.lines import measure
 
-        setattr(config, MEASURED, measure(config.getoption("--lines")))
+        setattr(config, MEASURED, measure(folder))
         setattr(config, TRACER, sys.gettrace())
+        if config.getoption("--mapped"):
+            from planner.touched import unmeasured
+
+            config.stash[LEFT_OUT] = unmeasured(folder)
     named = config.getoption("--program")
     if named and not os.access(named, os.X_OK):
         raise pytest.UsageError(f"--program {named}: there is no such program")
@@ -115,7 +133,7 @@ def pytest_sessionfinish(session: pytest.Session) -> None:
     if hasattr(session.config, MEASURED):
         from planner.lines import keep
 
-        keep(getattr(session.config, MEASURED))
+        keep(getattr(session.config, MEASURED), session.config.stash[SPENT])
 
 
 @pytest.hookimpl(optionalhook=True)
@@ -148,10 +166,18 @@ def pytest_xdist_make_scheduler(config: pytest.Config, log: Any) -> Any:
     return FewAtATime(config, log)
 
 
-def pytest_collection_modifyitems(items: list[pytest.Item]) -> None:
-    """Puts the tests that run alone last, and before them those whose lines are not measured: what a process computes once
-    and keeps is then computed under measurement. Of each part those that may take longer than others come first, so that
-    no worker ends with one. The others stay in their order."""
+def pytest_collection_modifyitems(
+    config: pytest.Config, items: list[pytest.Item]
+) -> None:
+    """Leaves out the tests that are not named, if some are. Puts the tests that run alone last, and before them those whose
+    lines are not measured: what a process computes once and keeps is then computed under measurement. Of each part those
+    that may take longer than others come first, so that no worker ends with one. The others stay in their order.
+    """
+    if path := config.getoption("--only"):
+        named = {*path.read_text("utf-8").splitlines()}
+        items[:] = [
+            it for it in items if named & {it.nodeid, it.nodeid.partition("::")[0]}
+        ]
     items.sort(key=lambda it: (is_serial(it), is_unmeasured(it), not is_long(it)))
 
 
@@ -162,7 +188,11 @@ def is_long(item: pytest.Item) -> bool:
 
 def is_unmeasured(item: pytest.Item) -> bool:
     """Returns whether a test is one whose lines are not measured."""
-    return item.nodeid.startswith(UNMEASURED)
+    if item.config.getoption("--by-test"):
+        return False
+    return (
+        item.nodeid.startswith(UNMEASURED) or item.nodeid in item.config.stash[LEFT_OUT]
+    )
 
 
 def is_serial(item: pytest.Item) -> bool:
@@ -173,22 +203,42 @@ def is_serial(item: pytest.Item) -> bool:
 @pytest.hookimpl(hookwrapper=True, tryfirst=True)
 def pytest_runtest_protocol(item: pytest.Item) -> Iterator[None]:
     """Runs a test, in a worker under a lock that all share but those that run alone. Waiting is not timed."""
-    measured, started = getattr(item.config, MEASURED, None), ""
-    is_by_test = item.config.getoption("--by-test")
-    if measured:  # A test may have taken the measurement away.
-        is_left_out = is_unmeasured(item) and not is_by_test
-        is_counted = item.nodeid.startswith(COUNTED) and not is_left_out
-        sys.settrace(getattr(item.config, TRACER) if is_counted else None)
-        started = os.environ.pop(STARTED, "") if is_left_out else ""
-    if measured and is_by_test:
-        measured.switch_context(item.nodeid)
     path = getattr(item.config, "workerinput", {}).get(LOCK)
     with open(path, encoding="ascii") if path else contextlib.nullcontext() as file:
         if file:
             fcntl.flock(file, fcntl.LOCK_EX if is_serial(item) else fcntl.LOCK_SH)
+        with measuring(item):
+            yield
+
+
+@contextlib.contextmanager
+def measuring(item: pytest.Item) -> Iterator[None]:
+    """Measures which lines a test runs, and the processor time that it takes with the processes that it starts."""
+    measured = getattr(item.config, MEASURED, None)
+    if not measured:
         yield
+        return
+    is_left_out = is_unmeasured(item)
+    is_counted = item.nodeid.startswith(COUNTED) and not is_left_out
+    # A test may have taken the measurement away.
+    sys.settrace(getattr(item.config, TRACER) if is_counted else None)
+    measured.switch_context(item.nodeid)
+    started = os.environ.pop(STARTED, "") if is_left_out else ""
+    os.environ[TEST], began = item.nodeid, sum(os.times()[:4])
+    yield
+    item.config.stash[SPENT][item.nodeid] = sum(os.times()[:4]) - began
     if started:
         os.environ[STARTED] = started
+
+
+def pytest_report_teststatus(
+    report: pytest.TestReport, config: pytest.Config
+) -> tuple[str, str, str] | None:
+    """Names a test as soon as it fails, which the summary does only at the end."""
+    if not report.failed or config.option.verbose > 0:
+        return None
+    kind = "failed" if report.when not in ("setup", "teardown") else "error"
+    return kind, f"\n{report.nodeid}: {kind}\n", kind.upper()
 
 
 def pytest_terminal_summary(terminalreporter: Any) -> None:

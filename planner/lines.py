@@ -10,6 +10,7 @@ was run or is not there.
 """
 from __future__ import annotations
 
+import json
 import os
 import sys
 import tomllib
@@ -24,10 +25,13 @@ TOP = Path(__file__).parents[1]
 SOURCE, REASONS = TOP / "planner/src/crnplan", Path(__file__).with_name("lines.toml")
 # What is read by mypy alone, or never ends with a value.
 LEFT_OUT = (r"if TYPE_CHECKING:", r"^\s*\.\.\.$", r"@overload")
+# In this file of its folder a run names the tests that it does not measure.
+UNMEASURED = "unmeasured.json"
 SETTINGS = """[run]
 data_file = {folder}/writing/data
 parallel = true
 source = {source}
+context = ${{CRNPLAN_TEST-}}
 disable_warnings = no-data-collected,module-not-imported,module-not-measured,already-imported
 """
 # Python runs this file as it starts, if its folder is in PYTHONPATH. What is registered first is done last.
@@ -64,13 +68,15 @@ def measure(folder: Path) -> coverage.Coverage:
     return measured
 
 
-def keep(measured: coverage.Coverage) -> None:
-    """Keeps which lines were run."""
+def keep(measured: coverage.Coverage, seconds: Mapping[str, float]) -> None:
+    """Keeps which lines were run, and the processor seconds of each test."""
     measured.stop()
     measured.save()
     path = Path(measured.get_data().data_filename())
     if path.exists():
         path.replace(path.parents[1] / path.name)
+        own = path.parents[1] / f"seconds-{os.getpid()}.json"
+        own.write_text(json.dumps(seconds), "utf-8")
 
 
 def read_from(folder: Path) -> coverage.Coverage:
@@ -99,10 +105,16 @@ def cut(folder: Path) -> list[str]:
     return sorted(path.name for path in (folder / "writing").glob("data.*"))
 
 
+def is_in_part(folder: Path) -> bool:
+    """Returns whether some tests of a run were not measured, since others run their lines."""
+    path = folder / UNMEASURED
+    return path.exists() and bool(json.loads(path.read_text("utf-8")))
+
+
 def tests_of(folder: Path) -> dict[tuple[str, int], list[str]]:
     """Returns the tests that run each line, by file and number, those first that run fewest lines.
 
-    The tests were run with `--by-test`. Lines that run as a module is loaded are left out.
+    Lines that run as a module is loaded are left out.
     """
     data, found, sizes = read_from(folder).get_data(), {}, Counter[str]()
     for path in data.measured_files():
@@ -113,6 +125,14 @@ def tests_of(folder: Path) -> dict[tuple[str, int], list[str]]:
                 found[str(Path(path).relative_to(SOURCE)), line] = tests
     for tests in found.values():
         tests.sort(key=lambda name: (sizes[name], name))
+    return found
+
+
+def seconds_of(folder: Path) -> dict[str, float]:
+    """Returns the processor seconds that each test has taken."""
+    found = dict[str, float]()
+    for path in folder.glob("seconds-*.json"):
+        found |= json.loads(path.read_text("utf-8"))
     return found
 
 
@@ -144,6 +164,8 @@ def main(folder: Path) -> None:
         click.echo(
             f"{name}: a process was killed as it wrote the lines that it had run"
         )
+    if wrong and is_in_part(folder):
+        click.echo("not all tests were measured: .ci/run --anew measures all")
     count = sum(map(len, found.values()))
     click.echo(f"{count} lines of crnplan are not run by any test; {len(wrong)} faults")
     sys.exit(bool(wrong))

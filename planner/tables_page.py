@@ -18,7 +18,6 @@ from crnplan.show import (
 )
 from crnplan.show.today_tables import TABLES as ON_A_DAY
 from crnplan.given import words_of
-from crnplan.plan import what_ifs
 from crnplan.plan.how import Settings
 from crnplan.read.items import Reading
 from crnplan.read.configuration import COLUMNS
@@ -63,7 +62,7 @@ TABLES: Mapping[str, tuple[str, Sequence[Column]]] = {
         control_tables.CONTROL_COLUMNS,
     ),
     "levels.csv": (
-        "The levels of items that are planned by their season: a row for each month of the coming year.",
+        "The levels of items that are planned by their season: a row for each part of the coming year.",
         calendars.COLUMNS,
     ),
     "rejects.csv, today_left_out.csv": (
@@ -128,7 +127,6 @@ TABLES: Mapping[str, tuple[str, Sequence[Column]]] = {
         "Policies under the laws that a history allows.",
         doubt.COLUMNS,
     ),
-    "PlannedItem.moves": ("How the best policy of an item moves.", what_ifs.COLUMNS),
     "crnplan.trajectories": (
         "Policies period by period.",
         trajectory.COLUMNS,

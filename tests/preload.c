@@ -1,6 +1,10 @@
-/* Stands before a program by LD_PRELOAD. It counts requests of its process, refuses some and holds threads, as the environment says:
+/* Stands before a program by LD_PRELOAD. It counts requests of its process, refuses some, cuts reads and writes short and holds
+   threads, as the environment says:
      REFUSE_MEMORY=N   refuses the Nth request for memory, REFUSE_MEMORY=N+ the Nth and all after it;
      REFUSE_THREAD=N   the Nth start of a thread, or N+ as above;
+     REFUSE_READ=N     the Nth read, and REFUSE_WRITE=N the Nth write to standard output: it fails;
+     TAKE_NONE=N       the Nth write to standard output takes no byte;
+     MOST_BYTES=N      a read, or a write to standard output, moves at most N bytes;
      HOLD_THREADS=1    a thread that is started waits until it is joined, so threads run one after the other;
      WRITE_COUNTS=F    at the end a line for each count goes to the file F, with its name, and one for each start of a thread.
    Requests count from the time on at which this library stands, so the loader's own are not among them. It is for the C
@@ -44,7 +48,8 @@ struct start {
     sem_t joined;
 };
 
-static struct rule memory, thread;
+static struct rule memory, thread, reading, writing, taking;
+static size_t most_bytes;
 /* Those of the program itself, without what the C library takes for the start of a thread. */
 static atomic_long allocations, bytes, freed;
 static atomic_long started, joined, reads, writes, yields, sleeps;
@@ -143,14 +148,22 @@ int pthread_join(pthread_t id, void **answer) {
     return status;
 }
 
+static size_t moved(size_t size) { return most_bytes && size > most_bytes ? most_bytes : size; }
+
 ssize_t read(int file, void *room, size_t size) {
     reads += stands;
-    return next_read(file, room, size);
+    if (is_refused(&reading))
+        return errno = EIO, -1;
+    return next_read(file, room, moved(size));
 }
 
 ssize_t write(int file, const void *text, size_t size) {
     writes += stands;
-    return next_write(file, text, size);
+    if (file != STDOUT_FILENO)
+        return next_write(file, text, size);
+    if (is_refused(&writing))
+        return errno = EIO, -1;
+    return is_refused(&taking) ? 0 : next_write(file, text, moved(size));
 }
 
 int sched_yield(void) {
@@ -190,6 +203,11 @@ __attribute__((constructor)) static void begin(void) {
         sem_init(&starts[at].joined, 0, 0);
     read_rule(&memory, "REFUSE_MEMORY");
     read_rule(&thread, "REFUSE_THREAD");
+    read_rule(&reading, "REFUSE_READ");
+    read_rule(&writing, "REFUSE_WRITE");
+    read_rule(&taking, "TAKE_NONE");
+    const char *most = getenv("MOST_BYTES");
+    most_bytes = most ? strtoul(most, NULL, 10) : 0;
     holds = getenv("HOLD_THREADS") != NULL;
     stands = 1;
 }

@@ -8,15 +8,17 @@ crates, but not who calls them.
 
 Prints a line for each function that is called, and for each type of which a value is made, and below it a line for each
 function that does so. `2` stands before one that does it twice, `if` before one where a branch decides, `loop` before one
-that repeats it. With names, prints only what contains one of them, and with which arguments.
+that repeats it. Who stores a field makes a value too, and who calls itself has a loop. With names, prints only what contains
+one of them, and with which arguments.
 """
 from __future__ import annotations
 
 import json
+import re
 import sys
 import tomllib
 from collections import Counter, defaultdict
-from collections.abc import Iterable, Iterator, Mapping
+from collections.abc import Container, Iterable, Iterator, Mapping
 from fnmatch import fnmatchcase
 from pathlib import Path
 from typing import Any, NamedTuple
@@ -31,6 +33,8 @@ BARE = ("Prim", "Foreign", "Fork", "CallV")
 STORES = {"Assign": 0, "Call": 2, "CallV": 3, "LendStatic": 0}
 # How the names of the repository's crates begin.
 OURS = "crn_"
+# The name of a function, which is none of a type, of an impl or of what frees a value.
+FUNCTION = re.compile(r"^(?!.*\+Destruct).*::[a-z_][a-z0-9_]*$")
 # A longer account of what an argument is made of says no more.
 MOST_LETTERS = 160
 
@@ -96,7 +100,7 @@ class Function:
         for node, within in statements(self.code["body"]):
             how = "".join(dict.fromkeys(f"{name} " for name, _ in within))
             given = self.arguments(node["Call"], within) if kind(node) == "Call" else ""
-            used = [*self.made(node), *self.named(node)]
+            used = [*self.made(node), *self.named(node), *self.changed(node)]
             for at, name in enumerate(used):
                 yield Use(name, self.name, how, "" if at else given)
             self.store(node, within, f"{last(used[0], 2)}{given}" if given else "")
@@ -112,7 +116,7 @@ class Function:
         """Yields what a part of the code names: functions, methods, the impls that it passes on, loops of its crate, and
         bare steps."""
         if node == "Loop":
-            yield f"{self.name.partition('::')[0]}::{{loop}}"
+            yield loop_of(self.name)
         if isinstance(node, list):
             for it in node:
                 yield from self.named(it)
@@ -139,6 +143,18 @@ class Function:
         number = f"#{parts[0]['Int']['value']}" if is_enum else ""
         if "::" in name:
             yield f"{name}{number} {{"
+
+    def changed(self, node: Node) -> Iterator[str]:
+        """Yields the type of the value of which a statement stores a field, if it has a name, as if it made one."""
+        place = stored_in(node) or {"steps": []}
+        steps = [kind(it) for it in place["steps"]]
+        if "Field" not in steps:
+            return
+        before = place["steps"][: steps.index("Field")]
+        local = self.code["locals"][place["local"]]["ty"]
+        of = before[-1].get("Deref") if before else local
+        if kind(of) == "Named":
+            yield f"{of['Named'][0]['name']} {{"
 
     def arguments(self, call: list[Node], within: Within) -> str:
         """Returns what a call is given: its types of this repository and its arguments."""
@@ -174,7 +190,9 @@ class Function:
         """Returns what a place holds: a parameter, or what was stored there, and the numbers of its fields; `..` if
         several values may stand there, or if it is long."""
         value, path = self.values.get(node["local"], ("..", ()))
-        is_last = within[: len(path)] == path and "loop" not in dict(within)
+        is_last = within[: len(path)] == path and "loop" not in dict(
+            within[len(path) :]
+        )
         is_known = is_last or self.stored[node["local"]] < 2
         # What lies in memory may be changed through a pointer.
         is_own = self.code["locals"][node["local"]]["home"] == "ValueLocal"
@@ -240,45 +258,87 @@ def functions(top: Path = TOP) -> dict[str, Function]:
 
 
 def uses_of(top: Path = TOP) -> list[Use]:
-    """Returns all that the functions of these libraries call, name or make."""
-    return [use for function in functions(top).values() for use in function.uses()]
+    """Returns all that the functions of these libraries call, name or make. One that calls itself, maybe through others,
+    has a loop of its crate by that."""
+    uses = [use for function in functions(top).values() for use in function.uses()]
+    called = defaultdict[str, set[str]](set)
+    for use in uses:
+        called[use.by].add(use.of)
+    led = {name: led_to(called, [name]) for name in called}
+    return uses + [
+        use._replace(of=loop_of(use.by), arguments="")
+        for use in uses
+        if use.by in led.get(use.of, ())
+    ]
+
+
+def loop_of(name: str) -> str:
+    """Returns what stands for a loop in a function's crate."""
+    return f"{name.partition('::')[0]}::{{loop}}"
+
+
+def led_to(called: Mapping[str, set[str]], names: Iterable[str]) -> set[str]:
+    """Returns these functions, and those to which their calls lead."""
+    found, waiting = {*names}, [*names]
+    while waiting:
+        new = called.get(waiting.pop(), set()) - found
+        found |= new
+        waiting += new
+    return found
 
 
 class Pins(NamedTuple):
-    """The pinned uses: patterns of what any function may use, and of what else who uses it, how, and how often."""
+    """The pinned uses: patterns of what any function may use, and of what else who uses it, how, and how often. In the
+    crates that are listed whole, this holds of each call, of functions of the repository and of those that repeat
+    something; in those that are listed for their loops, of the latter alone."""
 
     plain: list[str]
     listed: dict[str, Counter[str]]
+    whole: tuple[str, ...]
+    loops: tuple[str, ...]
+    within: dict[str, Counter[str]]
 
     @staticmethod
     def of(text: str) -> Pins:
         """Reads a list such as tests/calls/calls.toml."""
         read = tomllib.loads(text)
-        listed = defaultdict[str, Counter[str]](Counter)
+        pins = Pins(read["plain"], defaultdict(Counter), (), (), defaultdict(Counter))
         for group in read["group"]:
+            whole, loops = (
+                tuple(f"{it}::" for it in group.get(name, ()))
+                for name in ("whole", "loops")
+            )
+            listed = pins.within if whole + loops else pins.listed
+            pins = pins._replace(whole=pins.whole + whole, loops=pins.loops + loops)
             for of, lines in group["uses"].items():
                 for line in lines:
                     first, _, rest = line.partition(" ")
                     count, by = (int(first), rest) if first.isdecimal() else (1, line)
                     listed[of][by] += count
-        return Pins(read["plain"], dict(listed))
+        return pins
 
-    def is_pinned(self, of: str) -> bool:
-        """Returns whether who uses something is pinned: if it is listed, or of another crate and not plain."""
-        if of in self.listed or of.startswith(OURS):
-            return of in self.listed
-        return not any(fnmatchcase(of, plain) for plain in self.plain)
+    def lists(self, use: Use, repeating: Container[str]) -> Listed | None:
+        """Returns the list in which a use must stand, or None if it is free."""
+        is_ours = use.of.startswith(OURS)
+        is_free = is_ours or any(fnmatchcase(use.of, plain) for plain in self.plain)
+        if use.of in self.listed or not is_free:
+            return self.listed
+        is_call = FUNCTION.search(use.of) if is_ours else use.of in repeating
+        crates = self.whole if is_ours else self.whole + self.loops
+        return self.within if is_call and use.by.startswith(crates) else None
 
-    def refused(self, uses: Iterable[Use]) -> list[str]:
-        """Returns what differs between uses and the pinned ones."""
+    def refused(self, uses: Iterable[Use], repeating: Container[str] = ()) -> list[str]:
+        """Returns what differs between uses and the pinned ones. Of other crates, `repeating` are functions that repeat
+        something."""
+        all_listed = {**self.within, **self.listed}
         found = defaultdict[str, Counter[str]](Counter)
         for use in uses:
-            if self.is_pinned(use.of):
-                given = "(" in "".join(self.listed.get(use.of, ()))
+            if (listed := self.lists(use, repeating)) is not None:
+                given = "(" in "".join(listed.get(use.of, ()))
                 found[use.of][f"{use.how}{use.by}{use.arguments * given}"] += 1
-        new = [f"new: {line} uses {of}" for of, line in pairs(found, self.listed)]
+        new = [f"new: {line} uses {of}" for of, line in pairs(found, all_listed)]
         return new + [
-            f"gone: {line} used {of}" for of, line in pairs(self.listed, found)
+            f"gone: {line} used {of}" for of, line in pairs(all_listed, found)
         ]
 
 

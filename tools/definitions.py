@@ -387,8 +387,8 @@ def lines_of(repository, nodes, told, sorts, listed):
         ] if explained else []
 
 
-def clauses_of(repository, node):
-    """The `ensures` clauses of a function, as they stand in the source, without what they are indented by."""
+def clauses_of(repository, node, kinds="ensures"):
+    """The clauses of some kinds of a function, as they stand in the source, without what they are indented by."""
     crate, module, (*owner, name) = *node[1:3], node[3].split("::")
     paths = [
         f"crates/{crate}/src/{it}.rt"
@@ -400,16 +400,14 @@ def clauses_of(repository, node):
         if (repository.top / it).exists()
     )
     if owner:
-        text = "\n".join(
-            re.findall(
-                rf"^impl\b[^\n]*\b{owner[0]}\b.*?^}}", text, re.MULTILINE | re.DOTALL
-            )
-        )
+        impls = re.findall(r"^impl\b.*?^}", text, re.MULTILINE | re.DOTALL)
+        of = {it: IMPL.match(it)[2].split("::")[-1] for it in impls}
+        text = "\n".join(it for it in impls if of[it] == owner[0])
     head = re.search(rf"^( *)pub fn {name}\b.*?^\1{{", text, re.MULTILINE | re.DOTALL)[
         0
     ]
     clauses = re.findall(
-        r"^( *)(ensures\b.*?)(?=^ *(?:requires\b|ensures\b|ghost\b|\{$|\{\}$))",
+        rf"^( *)((?:{kinds})\b.*?)(?=^ *(?:requires\b|ensures\b|ghost\b|\{{$|\{{\}}$))",
         head + "\n{\n",
         re.MULTILINE | re.DOTALL,
     )

@@ -1,5 +1,4 @@
-"""Reads the wrong implementations: crates/NAME/wrong/*.edit, crates/NAME/must-fail/*.edit and
-crates/NAME/tested/*.edit.
+"""Reads the wrong implementations: crates/NAME/wrong/*.edit and crates/NAME/tested/*.edit.
 
 An edit changes lines of a crate's code. Its head says what goes wrong then and which function's proof must fail:
 
@@ -42,8 +41,8 @@ import tomllib
 TOP = os.path.dirname(os.path.dirname(os.path.abspath(__file__)))
 FUNCTION = re.compile(r"( *)(?:pub(?:\([^)]*\))? )?(?:(?:const|unsafe|final) )*fn \w")
 
-# The folders of a crate that have edits. The prover refuses those of the first two; tests see the others.
-FOLDERS = ("must-fail", "wrong", "tested")
+# The folders of a crate that have edits. The prover refuses those of the first; tests see the others.
+FOLDERS = ("wrong", "tested")
 
 BY_HAND = "tools/by_hand.toml"
 

@@ -10,6 +10,9 @@ The kit keeps what it has checked in crates/NAME/out/, but `rt ci` empties that 
 crnsim/refused/ of the user's folder of caches ($XDG_CACHE_HOME, else ~/.cache), for all clones of the repository. Each
 is a file, which is written under another name and then renamed. It is checked when it is read: a damaged one counts as
 none. One that no run has read for DAYS is removed.
+
+Beside them, in crnsim/work/, stands what the last rounds of each crate have proved. The prover takes of it only what is
+still up to date. So those few edits that are judged anew do not begin with a proof of all that they call.
 """
 import functools
 import hashlib
@@ -65,11 +68,11 @@ def sum_of_library(path):
     return sum_of_files(path, files_below(path))
 
 
-def cache_folder():
-    """Returns the folder where the verdicts are kept."""
+def cache_folder(part):
+    """Returns the folder where the verdicts are kept (refused), or what their checks have proved (work)."""
     named = os.environ.get("XDG_CACHE_HOME", "")
     caches = named if os.path.isabs(named) else os.path.expanduser("~/.cache")
-    return f"{caches}/crnsim/refused"
+    return f"{caches}/crnsim/{part}"
 
 
 def commit_of(top):
@@ -85,7 +88,7 @@ class Refused:
     """The kept verdicts."""
 
     def __init__(self, kit, prover, is_anew):
-        self.kit, self.folder, self.is_anew = kit, cache_folder(), is_anew
+        self.kit, self.folder, self.is_anew = kit, cache_folder("refused"), is_anew
         self.commit, self.fault = commit_of(TOP), ""
         version = subprocess.run(
             ["rt", "version"], stdin=subprocess.DEVNULL, capture_output=True, check=True

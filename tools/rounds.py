@@ -18,7 +18,6 @@ verdict in twenty, drawn by the commit, is judged anew each time: it fails if th
 
     --anew           judges all edits, whatever is kept
     --names A,B      only the edits with these names
-    --must-fail      also the edits of must-fail/, which `rt ci` tries one by one
     --tested         the edits of tested/ in place of these: they are proved, and a test must see each (tools/tested.py)
     --alone          each edit anew, in a check of its own, which shows what it costs
     --goals          prints for each edit the goal that is open, or the answer that does not fit
@@ -31,7 +30,8 @@ verdict in twenty, drawn by the commit, is judged anew each time: it fails if th
 
 With no crate: all of them. The libraries below a crate must stand built in crates/NAME/out/rlib, as `rt check` and
 `rt ci` leave them. The control checks each crate without an edit: it must prove every function that an edit names. A
-check asks for the functions that its edits name and what they call, over what the crate's checks have kept.
+check asks for the functions that its edits name and what they call, over what the crate's checks have kept, or else the last
+rounds. With --anew these count for nothing.
 
 Prints a line for each check and each failure. Seconds are of processor time. The last line is
 `N passed, M failed (J judged, K kept)`, counted in edits.
@@ -39,6 +39,7 @@ Prints a line for each check and each failure. Seconds are of processor time. Th
 import argparse
 import collections
 import concurrent.futures
+import contextlib
 import importlib.util
 import os
 import re
@@ -64,7 +65,7 @@ from edits import (
     reasons,
     text_of,
 )
-from refused import Refused, sum_of
+from refused import Refused, cache_folder, sum_of
 
 MEMORY_OF_A_CHECK = 3_000_000_000
 # What a check says of a function, or of another item.
@@ -117,7 +118,8 @@ def link(one, other):
 
 
 class Prover:
-    """Checks copies of one crate, over kept work that all checks of the crate share."""
+    """Checks copies of one crate, over kept work that all checks of the crate share. It begins with what the crate's own
+    checks have kept, or else the last rounds."""
 
     def __init__(self, kit, crate, room, options):
         self.crate, self.name, self.folder, self.work = (
@@ -144,13 +146,42 @@ class Prover:
         self.parts, self.limit = [
             it for it in kit.PARTS if os.path.isdir(f"{self.folder}/{it}")
         ], options.limit
+        self.kept = f"{cache_folder('work')}/{crate.name}"
+        self.starts = [
+            f"{self.folder}/out/incremental",
+            *[self.kept] * (not options.anew),
+        ]
+
+    def begin(self):
+        """Begins with kept work, if there is some."""
+        found = next((it for it in self.starts if os.path.isdir(it)), None)
+        try:
+            if found:
+                link(found, self.work)
+        except (OSError, shutil.Error):
+            # Other rounds may have left theirs in its place meanwhile.
+            shutil.rmtree(self.work, ignore_errors=True)
+
+    def leave(self):
+        """Leaves what the checks have proved to the next rounds, in place of what stood there. If that fails, these begin
+        from nothing."""
+        if not os.path.isdir(self.work):
+            return
+        new, old = f"{self.kept}.new", f"{self.kept}.old"
+        shutil.rmtree(new, ignore_errors=True)
+        shutil.rmtree(old, ignore_errors=True)
+        with contextlib.suppress(OSError, shutil.Error):
+            os.makedirs(os.path.dirname(self.kept), exist_ok=True)
+            shutil.move(self.work, new)
+            if os.path.isdir(self.kept):
+                os.rename(self.kept, old)
+            os.rename(new, self.kept)
+        shutil.rmtree(old, ignore_errors=True)
 
     def check(self, tries, functions):
         """Checks a copy of the crate with these edits, and asks for these functions."""
-        if os.path.isdir(f"{self.folder}/out/incremental") and not os.path.isdir(
-            self.work
-        ):
-            link(f"{self.folder}/out/incremental", self.work)
+        if not os.path.isdir(self.work):
+            self.begin()
         with tempfile.TemporaryDirectory(prefix="round-") as room:
             for part in self.parts:
                 shutil.copytree(f"{self.folder}/{part}", f"{room}/{part}")
@@ -305,11 +336,8 @@ def judged(each, ran, is_alone):
 
 def tries_of(crate, options):
     """The edits of a crate that are to be tried, and those that cannot be, with the reason."""
-    edits = edits_of(crate) + (
-        edits_of(crate, "must-fail") if options.must_fail else []
-    )
     tries, failed = [], []
-    for edit in edits:
+    for edit in edits_of(crate):
         if options.names and edit.name not in options.names:
             continue
         try:
@@ -329,9 +357,7 @@ def tries_of(crate, options):
 
 def without_edit(crate):
     """The names of a crate's edits in the list of those that are judged by hand that no file has."""
-    there = {
-        it.name for folder in ("wrong", "must-fail") for it in edits_of(crate, folder)
-    }
+    there = {it.name for it in edits_of(crate)}
     return [it for it in reasons().get(crate, {}) if it not in there]
 
 
@@ -421,12 +447,13 @@ class Rounds:
         for each in [it for it in tries if it.edit.refused_by in lost]:
             self.fail(each, lost[each.edit.refused_by])
         left, hidden = [it for it in tries if it.edit.refused_by not in lost], []
-        while left or hidden:
-            is_last = not left
-            left, hidden = (hidden, []) if is_last else (left, hidden)
-            chosen = packed(left, is_last or self.options.alone)
-            left = [it for it in left if it not in chosen]
-            hidden += self.round(chosen)
+        # Those that others have hidden are tried among themselves first, and then alone.
+        for is_alone in (self.options.alone, self.options.alone, True):
+            while left:
+                chosen = packed(left, is_alone)
+                left = [it for it in left if it not in chosen]
+                hidden += self.round(chosen)
+            left, hidden = hidden, []
 
     def round(self, chosen):
         """Tries some edits in one check; those that others hid."""
@@ -527,6 +554,8 @@ def try_all(names, options):
         with concurrent.futures.ThreadPoolExecutor(lanes) as pool:
             for future in [pool.submit(rounds.judge, tries) for rounds, tries in jobs]:
                 future.result()
+        for rounds, _ in jobs:
+            rounds.prover.leave()
     refused.remove_old()
     if refused.fault:
         print(refused.fault)
@@ -571,7 +600,6 @@ def options_of(words):
     parser.add_argument("--prover")
     parser.add_argument("--builder")
     for flag in (
-        "--must-fail",
         "--tested",
         "--anew",
         "--alone",

@@ -274,7 +274,7 @@ def candidate_rows(folder: Path, names: Iterable[str]) -> dict[str, Figures]:
 
 
 def item_rows(name: str, item: Item, program: str) -> Figures:
-    """Plans an item alone, and returns each figure: of theory, of the program, of doubt and the moves."""
+    """Plans an item alone, and returns each figure: of theory, of the program and of doubt."""
     assert item.backlog is not None
     holding = float(
         f"{float(item.holding):.1g}"
@@ -322,24 +322,7 @@ def item_figures(depth: Depth) -> Figures:
     figures["doubt"] = by_policy(
         {**row, "policy": names.get(row["policy"], row["policy"])} for row in rows
     )
-    figures["sensitivity"] = {
-        it.words: move_figures(it, scale) for it in depth.moves.moves
-    }
     return figures
-
-
-def move_figures(move: Any, scale: float) -> Figures:
-    """Returns the figures of an assumption that is moved."""
-    return {
-        "case": move.words,
-        "s": move.s,
-        "S": move.S,
-        "cost": move.cost * scale,
-        "fill": move.fill,
-        "kept_cost": move.kept_cost * scale,
-        "kept_more": move.kept_more,
-        "kept_fill": move.kept_fill,
-    }
 
 
 def items_of(files: Mapping[str, Any], folder: Path) -> dict[str, Item]:

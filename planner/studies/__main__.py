@@ -32,6 +32,7 @@ WITH_JOBS = (
     "correction",
     "costs",
     "moving",
+    "beside_rules",
     "promotions",
 )
 PRINTED = ("long_run",)  # its table is a text

@@ -11,7 +11,7 @@ replacement, of clusters (stores, cities, regions) and of groups (brands) at onc
 """
 from __future__ import annotations
 
-from collections.abc import Callable, Collection, Iterable, Sequence
+from collections.abc import Callable, Collection, Iterable, Mapping, Sequence
 from concurrent.futures import ProcessPoolExecutor
 from dataclasses import dataclass
 from functools import cached_property, partial
@@ -35,14 +35,15 @@ STORES = 3  # One store of so many is taken of orange juice.
 
 
 class Member(NamedTuple):
-    """An item of a set: its name, the cluster and the group that it moves with, its demand by period, and the number of
-    the first of these."""
+    """An item of a set: its name, the cluster and the group that it moves with, its demand by period, the number of the
+    first of these, and how many periods an order takes, or one of each period."""
 
     name: str
     cluster: str
     group: str
     counts: Whole
     first: int = 0
+    lead: int | Whole = LEAD
 
 
 @dataclass(frozen=True)
@@ -113,13 +114,14 @@ class Met(NamedTuple):
     periods: int
 
 
-def met_by(counts: Whole, record: int, levels: Whole) -> Met:
+def met_by(counts: Whole, record: int, levels: Whole, lead: int | Whole = LEAD) -> Met:
     """Returns what levels come to from the end of a record on. They are simulated from some periods before, with the
     first levels, a stock of S and nothing on order. In a period what is due arrives, the position is reviewed, demand is
-    met as far as stock reaches, and the rest is owed."""
+    met as far as stock reaches, and the rest is owed. An order takes `lead` periods, or those of its own period.
+    """
     first = max(0, record - BEFORE)
-    shares = levels.shape[1]
-    due = np.zeros((len(counts) + LEAD, shares))
+    shares, leads = levels.shape[1], np.broadcast_to(lead, len(counts))
+    due = np.zeros((len(counts) + int(leads.max()), shares))
     stock = levels[0, :, 1].astype(float)
     position = stock.copy()
     unmet, held, orders = np.zeros((3, shares))
@@ -127,7 +129,7 @@ def met_by(counts: Whole, record: int, levels: Whole) -> Met:
         s, S = levels[max(0, period - record)].T
         stock += due[period]
         is_ordered = position < s
-        due[period + LEAD] += np.where(is_ordered, S - position, 0)
+        due[period + leads[period]] += np.where(is_ordered, S - position, 0)
         position = np.where(is_ordered, S, position)
         short = counts[period] - np.clip(stock, 0, counts[period])
         stock -= counts[period]
@@ -138,6 +140,22 @@ def met_by(counts: Whole, record: int, levels: Whole) -> Met:
             held += np.maximum(stock, 0)
     later = counts[record:]
     return Met(unmet, float(later.sum()), held, orders, len(later))
+
+
+def all_met(
+    moving: Moving, ways: Mapping[str, Sequence[Whole]]
+) -> dict[str, list[Met]]:
+    """Returns what the levels of each item come to, by way. All ways of an item are simulated at once."""
+    met: dict[str, list[Met]] = {name: [] for name in ways}
+    for member, *levels in zip(moving.members, *ways.values(), strict=True):
+        both = np.concatenate(levels, axis=1)
+        every = met_by(member.counts, moving.record, both, member.lead)
+        ends = np.cumsum([own.shape[1] for own in levels])
+        parts = (np.split(every[place], ends[:-1]) for place in (0, 2, 3))
+        for name, unmet, stock, orders in zip(met, *parts):
+            own = Met(unmet, every.asked, stock, orders, every.periods)
+            met[name].append(own)
+    return met
 
 
 def samples_of(moving: Moving) -> Floats:
@@ -163,14 +181,10 @@ class Curve(NamedTuple):
     cost: Floats
 
     @classmethod
-    def of(cls, moving: Moving, levels: Sequence[Whole], samples: Floats) -> Curve:
-        """Adds up what levels come to."""
-        every = [
-            met_by(member.counts, moving.record, own)
-            for member, own in zip(moving.members, levels, strict=True)
-        ]
+    def of(cls, moving: Moving, every: Sequence[Met], samples: Floats) -> Curve:
+        """Adds up what the levels of all items come to."""
         # Of an item with no demand at all, nothing counts.
-        means = [max(float(member.counts.mean()), 1e-9) for member in moving.members]
+        means = [float(member.counts.mean()) or np.inf for member in moving.members]
         unit = np.array(means)[:, None]
         unmet = samples @ (np.array([met.unmet for met in every]) / unit)
         asked = samples @ (np.array([[met.asked] for met in every]) / unit)
@@ -209,15 +223,30 @@ class Estimate(NamedTuple):
 
 
 def compared(
-    moving: Moving, ways: dict[str, list[Whole]], base: str, aiming: Collection[str]
+    moving: Moving,
+    ways: Mapping[str, Sequence[Whole]],
+    base: str,
+    aiming: Collection[str],
 ) -> Iterable[dict[str, float | str]]:
-    """Yields a row for each way and each of `FILLS`: the stock that it needs to realize that fill, by how many percent
-    that is more than another way needs, and of ways that are `aiming` at `NOMINAL` the fill that they realize if they
+    """Yields the rows of `rows_of` of ways with their levels, for all of `FILLS`."""
+    return rows_of(moving, all_met(moving, ways), base, aiming)
+
+
+def rows_of(
+    moving: Moving,
+    ways: Mapping[str, Sequence[Met]],
+    base: str,
+    aiming: Collection[str],
+    fills: Sequence[float] = FILLS,
+    nominal: Sequence[float] = NOMINAL,
+) -> Iterable[dict[str, float | str]]:
+    """Yields a row for each way and each of some fills: the stock that it needs to realize that fill, by how many percent
+    that is more than another way needs, and of ways that are `aiming` at nominal shares the fill that they realize if they
     aim at it."""
     samples = samples_of(moving)
-    curves = {name: Curve.of(moving, levels, samples) for name, levels in ways.items()}
-    for wanted in FILLS:
-        share = NOMINAL.index(wanted) if wanted in NOMINAL else None
+    curves = {name: Curve.of(moving, every, samples) for name, every in ways.items()}
+    for wanted in fills:
+        share = nominal.index(wanted) if wanted in nominal else None
         beside = at_fill(curves[base].fill, curves[base].stock, wanted)
         for name, curve in curves.items():
             stock = at_fill(curve.fill, curve.stock, wanted)

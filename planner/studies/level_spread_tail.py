@@ -157,7 +157,7 @@ def plan_of(
     """Returns s and S by a law with some parts swapped. As in a backtest, the last ones are kept if it has none."""
     try:
         asked = question_with(question, parts, ratios)
-        return chosen(asked)[0].levels
+        return chosen(asked).levels
     except Refused:
         if before:
             return before[-1]

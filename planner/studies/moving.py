@@ -35,6 +35,7 @@ from crnplan.chances import Whole
 from crnplan.theory.every_gap import best_policies
 from crnplan.demand.learning import Prior, learn
 from crnplan.demand.fitted import FittedLaw
+from crnplan.demand.rate import at_rate
 from crnplan.demand.level import (
     AHEAD,
     FIRST,
@@ -92,24 +93,24 @@ def question(member: Member, setup: float, prior: Prior | None) -> Question:
     return question_of(item_of(member, setup), Settings(borrow=borrow), prior)
 
 
-def by_fill(asked: Question) -> list[Levels]:
+def by_fill(asked: Question, shares: Sequence[float] = NOMINAL) -> list[Levels]:
     """Returns the cheapest policy for each fill rate."""
     theory, box = asked.theory.free, asked.item.box
     middle = theory.best(0.98)
     gap = theory.gap_of(*middle.levels)
     if gap >= WIDE:
-        ((_, levels),) = theory.levels_with_fill([gap], NOMINAL)
+        ((_, levels),) = theory.levels_with_fill([gap], shares)
         span = theory.items(gap)
         return [(box * max(1, int(level) - span), box * int(level)) for level in levels]
-    best = [theory.best(fill) for fill in NOMINAL]
+    best = [theory.best(fill) for fill in shares]
     return [(box * max(1, policy.point), box * max(1, policy.level)) for policy in best]
 
 
-def by_price(asked: Question) -> list[Levels]:
+def by_price(asked: Question, prices: Sequence[float] = PRICES) -> list[Levels]:
     """Returns the best policy for each price."""
     theory, box, setup = asked.theory, asked.item.box, float(asked.item.setup)
     costs = np.array(
-        [[setup] * len(PRICES), [box] * len(PRICES), np.multiply(box, PRICES)]
+        [[setup] * len(prices), [box] * len(prices), np.multiply(box, prices)]
     )
     gaps, (levels, *_) = best_policies(theory, costs.astype(float))
     pairs = zip((levels - theory.items(gaps)).tolist(), levels.tolist())
@@ -139,7 +140,7 @@ def damped(counts: Sequence[int]) -> float:
 
 def by_level(asked: Question, factor: float) -> list[Levels]:
     """Returns the best policy for each price by the law of the record so many times."""
-    law, known = asked.demand.times(factor), asked.demand
+    law, known = at_rate(asked.demand.table, factor), asked.demand
     moved = FittedLaw.made(law, known.family, known.diagnostics, known.box)
     return by_price(replace(asked, demand=moved))
 

@@ -28,6 +28,8 @@ STUDIES = (
     "seasons",
     "season_plans",
     "season_year",
+    "beside_rules",
+    "floors",
     "season_real",
     "by_commands",
     "walk_forward",

@@ -38,7 +38,7 @@ import pandas as pd
 from crnplan.chances import Floats, Whole
 from crnplan.demand.fitted import FittedLaw
 from crnplan.demand.learning import LEAST_ON_REQUEST, Prior, learn
-from crnplan.demand.seasons import months_of
+from crnplan.demand.seasons import PARTS_OF_YEAR, months_of, parts_of
 from crnplan.errors import Refused
 from crnplan.law import Law
 from crnplan.plan.how import ALL, NONE, Settings
@@ -108,7 +108,8 @@ def drawn(
         level *= np.roll(INDEX, group * MONTHS // GROUPS)[months]
     if whose == FEAST:
         level[np.isin(np.arange(weeks) % YEAR, FEAST_WEEKS)] *= LIFT
-    index = np.bincount(months, level) / np.bincount(months)
+    parts = parts_of("week", FIRST, weeks)
+    index = np.bincount(parts, level) / np.bincount(parts)
     promoted = np.zeros((ITEMS, weeks), bool)
     if whose in (CLASS, ITEM):
         rows = 1 if whose == CLASS else ITEMS
@@ -143,7 +144,7 @@ def index_rows(
         for own in classes:
             seasons = seasons_of(own.items(left_out == MARKED), left_out)
             index = seasons.classes.get("")
-            values = np.array(index.values) if index else np.ones(MONTHS)
+            values = np.array(index.values) if index else np.ones(PARTS_OF_YEAR["week"])
             seen.append(index is not None)
             squares.append(float(((values - own.index) ** 2).mean()))
             weeks_found = np.array(seasons.promoted.get("", ()), int) - FIRST

@@ -1,17 +1,17 @@
-"""Compares plans by month with plans that know of no season, on made catalogues, in the year after the record.
+"""Compares plans by a season with plans that know of none, on made catalogues, in the year after the record.
 
     python -m planner.studies.season_plans --out planner/studies/season_plans.csv    all, in some minutes
     python -m planner.studies.season_plans --small                                   a small part, in some seconds
 
-A catalogue has 60 items in three classes, which it knows. Their seasons are `none`, or `strong` (0.6 to 1.6, those of
-`planner.studies.seasons`) and begin four months apart. Means are lognormal, with 10 in the median and a deviation of 0.8
+A catalogue has 60 items in three classes, which it knows. Their seasons are `none`, `strong` (0.6 to 1.6) or a `peak`
+(those of `planner.studies.seasons`), and begin a third of a year apart. Means are lognormal, with 10 in the median and a deviation of 0.8
 of the logarithm; each week a mean deviates by 5% more. Demand is negative binomial: `steady` has a variance of 1.5 means,
 `erratic` a size of 1.2. Items have a lead time of 2 weeks and a setup cost of 8 weeks of holding.
 
-Plans are from 104 or 156 weeks, and kept for the 52 that come: `flat` has one policy, `monthly` the levels of each month
-as `crnplan plan` has them in levels.csv. All items weigh alike. `fill` is the share of demand met at once, `peak`
-that in the quarter with the highest index; errors are over items and blocks of weeks. `stock` is the mean stock in weeks
-of demand. `at equal fill` is the mean stock by month beside the flat one if the nominal fill rate of each is raised until
+Plans are from 104 or 156 weeks, and kept for the 52 that come: `flat` has one policy, `seasonal` the levels of each part of
+the year as `crnplan plan` has them in levels.csv. All items weigh alike. `fill` is the share of demand met at once, `peak`
+that in the 14 weeks with the highest index, or the four of a `peak`; errors are over items and blocks of weeks. `stock` is the mean stock in weeks
+of demand. `at equal fill` is the mean stock by season beside the flat one if the nominal fill rate of each is raised until
 the wanted one comes, with an error over items. Seeds are fixed: [place of the season, of the demand, weeks, number].
 """
 from __future__ import annotations
@@ -29,7 +29,7 @@ import pandas as pd
 
 from crnplan.chances import Floats, Whole
 from crnplan.crnsim.periods import Realization, periods_of
-from crnplan.demand.seasons import months_of
+from crnplan.demand.seasons import parts_of
 from crnplan.plan.aims import FILLS
 from crnplan.plan.backtest.sums import BLOCK, Ratio
 from crnplan.plan.correction import levels_of
@@ -41,18 +41,18 @@ from crnplan.read.item import Item
 from planner.studies.correction import item_of
 from planner.studies.page import markdown
 from planner.studies.real_series import Series
-from planner.studies.seasons import SEASONS
+from planner.studies.seasons import PARTS, SEASONS
 from planner.studies.walk_forward import LEAD
 from planner.studies.warnings import percent
 
 STORED = Path(__file__).with_name("season_plans.csv")
 FIRST, LATER = period_of(date(2021, 1, 4), "week"), 52
 KINDS, RECORDS, NUMBERS, ITEMS, CLASSES = ("steady", "erratic"), (104, 156), 2, 60, 3
-WAYS = FLAT, MONTHLY = "flat", "monthly"
+WAYS = FLAT, SEASONAL = "flat", "seasonal"
 WANTED = (0.95, 0.98)
 CASES = [
     (season, kind, record)
-    for season in ("none", "strong")
+    for season in ("none", "strong", "peak")
     for kind in KINDS
     for record in RECORDS
 ]
@@ -75,8 +75,7 @@ def counts_of(
 ) -> tuple[int, ...]:
     """Draws the demand of an item."""
     mean = (
-        np.exp(random.normal(math.log(10), 0.8))
-        * index[months_of("week", FIRST, weeks)]
+        np.exp(random.normal(math.log(10), 0.8)) * index[parts_of("week", FIRST, weeks)]
     )
     mean = mean * np.exp(random.normal(0, 0.05, weeks))
     size = mean / 0.5 if kind == "steady" else np.full(weeks, 1.2)
@@ -89,8 +88,8 @@ def policies(question: Question, way: str) -> list[list[Levels]]:
         return [levels_of(question.theory.free)] * LATER
     weeks = list[list[Levels]]()
     for stretch in question.season.year:
-        month = levels_of(question.month(stretch).theory.free)
-        weeks += [month] * (stretch.end - stretch.first)
+        part = levels_of(question.during(stretch).theory.free)
+        weeks += [part] * (stretch.end - stretch.first)
     return weeks
 
 
@@ -158,17 +157,17 @@ def catalogue(
     places = [*SEASONS].index(season), KINDS.index(kind)
     random = np.random.default_rng([*places, record, number])
     drawn, made = list[tuple[int, ...]](), list[Item]()
-    peaks, months = list[Floats](), months_of("week", FIRST + record, LATER)
+    peaks, parts = list[Floats](), parts_of("week", FIRST + record, LATER)
     for place in range(items):
-        index = np.roll(SEASONS[season], 12 // CLASSES * (place % CLASSES))
+        index = np.roll(SEASONS[season], PARTS // CLASSES * (place % CLASSES))
         counts = counts_of(random, kind, index, record + LATER)
         item = item_of(Series(f"{season} {place}", counts), record)
         made.append(dataclasses.replace(item, group=str(place % CLASSES), first=FIRST))
-        peak = np.argmax(index + np.roll(index, 1) + np.roll(index, -1))
+        peak = np.argmax(sum(np.roll(index, turn) for turn in range(-3, 4)))
         drawn.append(counts)
-        peaks.append((months - peak + 1) % 12 < 3)
+        peaks.append((parts - peak + 3) % PARTS < 7)
     runs, seasons = {way: list[Run]() for way in WAYS}, Seasons.of("week", made)
-    for way, known in ((FLAT, None), (MONTHLY, seasons)):
+    for way, known in ((FLAT, None), (SEASONAL, seasons)):
         settings = Settings(borrow=NONE, every="week", seasons=known)
         for counts, item in zip(drawn, made):
             weeks = policies(question_of(item, settings), way)

@@ -1,12 +1,13 @@
-"""Compares plans by month with plans that know of no season, on real series, by the stock for the same realized fill.
+"""Compares plans by a season with plans that know of none, on real series, by the stock for the same realized fill.
 
     python -m planner.studies.season_real --jobs 2 --out planner/studies/season_real.csv    what is stored
     python -m planner.studies.season_real homes --jobs 2                                  some sets alone
 
 Sets, as far as packages of R are installed: `homes` sold by city and month, planned each three months from seven years on;
 `rides` from stations by week, and `counts` of cases of diseases by week that ask for 2 or more in the mean, planned each
-four weeks from three years on. Cities are one class, stations another, and each data set of cases one of its own. Both ways plan by the whole record so far, as `crnplan plan` does; `monthly`
-applies the levels of the month, and learns the season anew for each plan. `fair.py` says how ways are compared.
+four weeks from three years on. Cities are one class, stations another, and each data set of cases one of its own.
+Both ways plan by the whole record so far, as `crnplan plan` does; `seasonal` applies the levels of the part of the year, and
+learns the season anew for each plan. `fair.py` says how ways are compared.
 """
 from __future__ import annotations
 
@@ -35,7 +36,7 @@ from planner.studies.real_series import Series, real_series
 
 STORED = Path(__file__).with_name("season_real.csv")
 LEAST_MEAN = 2  # of counts
-WAYS = FLAT, MONTHLY = "flat", "monthly"
+WAYS = FLAT, SEASONAL = "flat", "seasonal"
 CLASS = "all"
 SMALL = 2  # items of a small part
 
@@ -79,8 +80,8 @@ def policies(item: Item, settings: Settings, periods: int) -> list[list[Levels]]
     first, rows = item.first + len(item.counts), list[list[Levels]]()
     for stretch in question.season.year:
         if stretch.first < first + periods:
-            month = by_fill(question.month(stretch))
-            rows += [month] * (stretch.end - stretch.first)
+            part = by_fill(question.during(stretch))
+            rows += [part] * (stretch.end - stretch.first)
     return rows[:periods]
 
 
@@ -98,7 +99,7 @@ def levels_of(of: SeasonSet, seasons: Sequence[Seasons | None], place: int) -> W
 def walked(of: SeasonSet, way: str, jobs: int) -> list[Whole]:
     """Returns `levels_of` for each item, by several processes."""
     seasons = list[Seasons | None]([None] * len(of.plans))
-    if way == MONTHLY:
+    if way == SEASONAL:
         seasons = [Seasons.of(of.every, of.items(periods)) for periods in of.plans]
     with ProcessPoolExecutor(jobs) as pool:
         places = range(len(of.moving.members))
@@ -139,10 +140,10 @@ def tables() -> dict[str, str]:
     """Returns the stored figures for the page: a line for each set and fill."""
     lines = []
     for (name, fill), rows in pd.read_csv(STORED).groupby(["set", "fill"], sort=False):
-        flat, monthly = rows.to_dict("records")
+        flat, seasonal = rows.to_dict("records")
         line = {"set": name, "items": flat["items"], "wanted": f"{100 * fill:g}"}
-        line |= {f"met, {way}": aimed(row) for way, row in zip(WAYS, (flat, monthly))}
-        lines.append(line | {"stock at equal fill, %": shown(monthly)})
+        line |= {f"met, {way}": aimed(row) for way, row in zip(WAYS, (flat, seasonal))}
+        lines.append(line | {"stock at equal fill, %": shown(seasonal)})
     return {"season-real": markdown(pd.DataFrame(lines))}
 
 

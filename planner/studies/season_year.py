@@ -1,12 +1,11 @@
-"""Compares what theory computes for a year of months, each as if it lasted, with a simulation of the whole year.
+"""Compares what theory computes for the parts of a year, each as if it lasted, with a simulation of the whole year.
 
     python -m planner.studies.season_year --out planner/studies/season_year.csv    all, in about a minute
     python -m planner.studies.season_year --small                                  one case
 
-An item of mean 10 is planned by month, from 104 weeks of negative binomial demand: `steady` with a variance of 1.5 means,
-`erratic` with a size of 1.2. Its season is `strong` (0.6 to 1.6, of `planner.studies.seasons`), or a `peak`: one month at
-three times the others. Its law without the season, times the index of the month, is then what comes, so that nothing but
-theory's months can be wrong. The same 52 weeks come again for 400 years, with an order that takes 2 or 6 weeks and costs
+An item of mean 10 is planned by parts of the year, from 104 weeks of negative binomial demand: `steady` with a variance of 1.5 means,
+`erratic` with a size of 1.2. Its season is `strong` or a `peak`, those of `planner.studies.seasons`. Its
+law at the rate of each part is then what comes, so that nothing but theory's parts can be wrong. The same 52 weeks come again for 400 years, with an order that takes 2 or 6 weeks and costs
 8 weeks of holding. `promised` is what theory computes; errors are over years. Seeds are fixed: [place of the season, of
 the demand, lead time, wanted percent].
 """
@@ -26,7 +25,8 @@ import pandas as pd
 from crnplan.chances import Floats
 from crnplan.crnsim.periods import Realization, periods_of
 from crnplan.demand.index import Index
-from crnplan.demand.seasons import months_of
+from crnplan.demand.rate import at_rate
+from crnplan.demand.seasons import parts_of
 from crnplan.plan.choice import choice_of
 from crnplan.plan.how import NONE, Settings
 from crnplan.plan.question import Question, question_of
@@ -40,8 +40,7 @@ from planner.studies.warnings import percent
 
 STORED = Path(__file__).with_name("season_year.csv")
 MEAN, RECORD, YEARS, SETUP = 10.0, 104, 400, 8
-PEAK = np.array([1.0] * 11 + [3.0])
-INDICES: dict[str, Floats] = {"strong": SEASONS["strong"], "peak": PEAK / PEAK.mean()}
+INDICES: dict[str, Floats] = {name: SEASONS[name] for name in ("strong", "peak")}
 CASES = [*itertools.product(INDICES, KINDS, (2, 6), (0.95, 0.98))]
 SMALL = CASES[:1]
 FIGURES = ("fill", "stock")
@@ -52,7 +51,7 @@ def question(
 ) -> Question:
     """Returns what is asked for an item of a class with a season."""
     index = INDICES[season]
-    means = MEAN * index[months_of("week", FIRST, RECORD)]
+    means = MEAN * index[parts_of("week", FIRST, RECORD)]
     size = means / 0.5 if kind == KINDS[0] else np.full(RECORD, 1.2)
     counts = random.negative_binomial(size, size / (size + means)).tolist()
     item = item_of(Series("item", tuple(counts)), RECORD)
@@ -67,16 +66,16 @@ def question(
 
 
 def promised(asked: Question) -> tuple[list[tuple[int, int]], Floats]:
-    """Returns the levels of each week of a year, and what theory computes of their months: the share met at once, by
+    """Returns the levels of each week of a year, and what theory computes of their parts: the share met at once, by
     demand, stock and cost, by weeks."""
     weeks, rows, weights = list[tuple[int, int]](), list[Floats](), list[Floats]()
     assert asked.season
     for stretch in asked.season.year:
-        month, periods = asked.month(stretch), stretch.end - stretch.first
-        figures = month.figures(choice_of(month, True).levels)
+        part, periods = asked.during(stretch), stretch.end - stretch.first
+        figures = part.figures(choice_of(part, True).levels)
         weeks += [figures.levels] * periods
         rows.append(np.array([figures.fill, figures.stock, figures.cost]))
-        weights.append(np.array([float(month.demand.mean), 1, 1]) * periods)
+        weights.append(np.array([float(part.demand.mean), 1, 1]) * periods)
     return weeks, np.average(rows, axis=0, weights=weights)
 
 
@@ -87,10 +86,10 @@ def simulated(
     first."""
     season, item = asked.season, asked.item
     assert season
-    months = months_of("week", season.year[0].first, LATER)
+    parts = parts_of("week", season.year[0].first, LATER)
     demands = np.zeros((YEARS + 1, LATER), int)
-    for week, month in enumerate(months):
-        law = season.law.times(season.index.values[month])
+    for week, part in enumerate(parts):
+        law = at_rate(season.law, season.rates[part])
         demands[:, week] = law.draws(random, YEARS + 1)
     every = demands.size
     past = Realization(demands.ravel().tolist(), (0,) * every, item.leads * every)
@@ -151,7 +150,7 @@ def tables() -> dict[str, str]:
     help="Write the rows as CSV.",
 )
 def main(small: bool, out: Path | None) -> None:
-    """Compare a year of months, each as if it lasted, with a simulation of the whole year."""
+    """Compare the parts of a year, each as if it lasted, with a simulation of the whole year."""
     rows = study(SMALL if small else CASES)
     if out:
         rows.to_csv(out, index=False, float_format="%.5f")

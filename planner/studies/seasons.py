@@ -14,10 +14,11 @@ deviation of 1 of the logarithm; demand is negative binomial with a size of 3. K
 - `growth`: all grow by 35% a year;
 - `half turned`: independent, but the season of every other item comes half a year later.
 
-Seasons are `none`, `mild` (a sine from 0.85 to 1.15) and `strong` (0.6 to 1.6), each begun in a month at random. `seen`
+Seasons are `none`, `mild` (a sine from 0.85 to 1.15), `strong` (0.6 to 1.6) and a `peak` (four weeks at three times the
+others), each begun at random. `seen`
 is the share of classes for which the test sees a season, `own` that of items which then have one of their own, and `some`
 that of classes with such an item. `error` is the root mean square of the index of an item, 1 if none is seen, less the
-true one, over months and classes; `flat` that of 1. Seeds are fixed: [place of the kind, of the season, years, items].
+true one, over parts of the year and classes; `flat` that of 1. Seeds are fixed: [place of the kind, of the season, years, items].
 """
 from __future__ import annotations
 
@@ -36,25 +37,33 @@ from scipy.signal import lfilter
 from crnplan.chances import Floats, Whole
 from crnplan.demand.index import (
     FLAT,
-    MONTHS,
     Years,
     class_index,
     own_alarms,
     own_index,
 )
-from crnplan.demand.seasons import months_of
+from crnplan.demand.seasons import PARTS_OF_YEAR, parts_of
 from crnplan.read.dates import period_of
 from planner.studies.page import markdown
 from planner.studies.warnings import error_of, percent
 
 STORED = Path(__file__).with_name("seasons.csv")
 YEAR, FIRST = 52, period_of(date(2021, 1, 4), "week")
-MONTH = 2 * math.pi * np.arange(MONTHS) / MONTHS
+PARTS = PARTS_OF_YEAR["week"]
+PART = (np.arange(PARTS) + 0.5) / PARTS
 STRONG = (0.6, 0.65, 0.8, 0.9, 1.0, 1.1, 1.25, 1.5, 1.6, 1.2, 0.8, 0.6)
+
+
+def of_year(amounts: Floats) -> Floats:
+    """Returns an index by part of the year, whose mean is 1."""
+    return np.asarray(amounts / amounts.mean())
+
+
 SEASONS: dict[str, Floats] = {
-    "none": FLAT,
-    "mild": 1 + 0.15 * np.sin(MONTH),
-    "strong": np.array(STRONG) / np.mean(STRONG),
+    "none": np.ones(PARTS),
+    "mild": 1 + 0.15 * np.sin(2 * math.pi * PART),
+    "strong": of_year(np.interp(12 * PART - 0.5, range(12), STRONG, period=12)),
+    "peak": of_year(np.where(np.arange(PARTS) < 2, 3.0, 1.0)),
 }
 KINDS = (
     *("independent", "lumpy", "common shocks", "common waves"),
@@ -64,7 +73,7 @@ KINDS = (
 # Of which power is measured.
 OF_SEASONS = ("independent", "lumpy", "common shocks", TURNED)
 YEARS, ITEMS = (2, 3, 4), (10, 60)
-CLASSES = {"none": 1000, "mild": 200, "strong": 200}
+CLASSES = {"none": 1000, "mild": 200, "strong": 200, "peak": 200}
 FIGURES = ("seen", "own", "some", "error")
 CASES = [
     (kind, season, years, items)
@@ -108,7 +117,7 @@ def demand(
 ) -> Whole:
     """Draws the demand of a class, whose items have an index each, or all the same: a row for each item."""
     weeks = years * YEAR
-    factors = index[:, months_of("week", FIRST, weeks)]
+    factors = index[:, parts_of("week", FIRST, weeks)]
     factors = factors * np.exp(levels(random, kind, items, weeks))
     if kind == "lumpy":
         is_asked = random.random((items, weeks)) < 0.1 * factors
@@ -123,11 +132,9 @@ def case(kind: str, season: str, years: int, items: int, count: int) -> dict[str
     random = np.random.default_rng([*places, years, items])
     seen, some, owns, squares = 0, 0, list[float](), list[float]()
     for _ in range(count):
-        truth = np.roll(SEASONS[season], random.integers(MONTHS))[None]
+        truth = np.roll(SEASONS[season], random.integers(PARTS))[None]
         if kind == TURNED:
-            truth = np.resize(
-                [truth[0], np.roll(truth[0], MONTHS // 2)], (items, MONTHS)
-            )
+            truth = np.resize([truth[0], np.roll(truth[0], PARTS // 2)], (items, PARTS))
         drawn = demand(random, kind, truth, years, items).tolist()
         known = [Years.of(counts, "week", FIRST) for counts in drawn]
         index = class_index(known)
@@ -136,7 +143,7 @@ def case(kind: str, season: str, years: int, items: int, count: int) -> dict[str
         own = [own_index(one, index, alarms) for one in known]
         owns.append(np.mean([one is not index for one in own]))
         some += owns[-1] > 0
-        values = np.array([one.values if one else FLAT for one in own])
+        values = np.array([one.values if one else [FLAT] * PARTS for one in own])
         squares.append(float(((values - truth) ** 2).mean()))
     error = math.sqrt(np.mean(squares))
     spread = np.std(squares, ddof=1) / math.sqrt(count)

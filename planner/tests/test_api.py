@@ -316,7 +316,7 @@ def test_decisions_are_typed(plan: crn.Plan) -> None:
         plan.item("K-122")
 
 
-@pytest.mark.parametrize("name", ["plan", "item", "doubt", "moves", "curve"])
+@pytest.mark.parametrize("name", ["plan", "item", "doubt", "curve"])
 def test_each_result_shows_itself_in_the_same_way(name: str, plan: crn.Plan) -> None:
     """Each has a frame, a text, and a table for a notebook with a heading for each of at most eight columns."""
     item = plan.item("K-102")
@@ -324,7 +324,6 @@ def test_each_result_shows_itself_in_the_same_way(name: str, plan: crn.Plan) -> 
         "plan": lambda: plan,
         "item": lambda: item,
         "doubt": item.doubt,
-        "moves": item.moves,
         "curve": lambda: plan.curve(fill=0.97),
     }[name]()
     assert isinstance(result, Result)

@@ -12,6 +12,7 @@ from planner.studies.fair import (
     Estimate,
     Member,
     Moving,
+    all_met,
     at_fill,
     compared,
     met_by,
@@ -96,7 +97,8 @@ def test_sums_of_a_curve_by_hand() -> None:
     met, since orders take 2 periods. The mean demand is 4/3."""
     moving = moving_of([1, 2, 1])
     levels = [np.array([[[1, 1], [4, 4]]] * 2)]
-    curve = Curve.of(moving, levels, np.ones((1, 1)))
+    met = all_met(moving, {"": levels})[""]
+    curve = Curve.of(moving, met, np.ones((1, 1)))
     assert curve.fill[0] == pytest.approx([0, 1])
     assert curve.stock[0] == pytest.approx([0, 0.375])
     assert curve.cost[0] == pytest.approx([8, 8.375])

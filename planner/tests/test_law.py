@@ -154,7 +154,6 @@ WRONG: dict[str, tuple[Make, str]] = {
     "uneven": (lambda: Law((2, 1), (1,)), "there are 2 values and 1 weights"),
     "low weight": (lambda: Law((1, 2), (-1, 2)), "weights: -1 is below 0"),
     "zeros": (lambda: Law((1, 2), (0, 0)), "no weight is above 0"),
-    "factor": (lambda: Law((1,), (1,)).times(-1), "factor: -1.0 is not at least 0"),
 }
 
 
@@ -171,11 +170,6 @@ def test_refused(name: str) -> None:
     make, why = WRONG[name]
     with pytest.raises(Refused, match=f"^{why}"):
         make()
-
-
-def test_many_times_a_law() -> None:
-    """Checks that what is above the greatest value of a scenario counts there, however many times a value is taken."""
-    assert Law((0, 3), (1, 1)).times(1e9) == Law((0, 10_000), (32_768, 32_768))
 
 
 def test_scenarios_take_what_laws_take() -> None:

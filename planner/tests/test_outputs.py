@@ -6,6 +6,7 @@ import ast
 import errno
 import os
 import re
+import shlex
 import socket
 import stat
 import subprocess
@@ -31,13 +32,13 @@ NULL = os.makedev(1, 3)
 EXAMPLE = f"{TOP}/examples/two_policies"
 WRITING = {
     "catalogue": "plan demand.csv items.csv --check --rejects OUT.csv",
-    "reports": f"run {EXAMPLE}.csv --replications 1 --out OUT.csv",
+    "reports": f"run '{EXAMPLE}.csv' --replications 1 --out OUT.csv",
 }
 # Those that need the program, the first two also a plan.
 BY_PROGRAM = {
     "report": "report plan --xlsx OUT.xlsx",
     "curve": "curve plan --plot OUT.svg",
-    "run": f"run {EXAMPLE}.toml --out OUT.csv",
+    "run": f"run '{EXAMPLE}.toml' --out OUT.csv",
 }
 
 
@@ -53,7 +54,7 @@ def inputs(tmp_path: Path, monkeypatch: pytest.MonkeyPatch) -> Path:
 
 def words_to(path: Path, line: str) -> list[str]:
     """Returns the words of a command that writes to a path."""
-    return re.sub(r"OUT\.\w+", str(path), line).split()
+    return [re.sub(r"OUT\.\w+", str(path), word) for word in shlex.split(line)]
 
 
 def make_device(path: Path) -> None:

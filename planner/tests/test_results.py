@@ -58,7 +58,6 @@ def results(path: Path, program: Path) -> Mapping[str, Result]:
         "plan": plan,
         "item": item,
         "doubt": item.doubt(),
-        "moves": item.moves(),
         "curve": plan.curve(jobs=1),
         "orders": plan.orders_today(date=START + pd.Timedelta(weeks=60)),
         "backtest": crn.backtest(*tables(), record=52, every=4, jobs=1),
@@ -69,9 +68,7 @@ def results(path: Path, program: Path) -> Mapping[str, Result]:
     }
 
 
-KINDS = (
-    """plan item doubt moves curve orders backtest suggestions report decide""".split()
-)
+KINDS = """plan item doubt curve orders backtest suggestions report decide""".split()
 KINDS += ["long run"]
 
 
@@ -289,8 +286,6 @@ def test_trajectories(results: Mapping[str, Result], program: Path) -> None:
     high = frame[frame["policy"] == "high"]
     gone = (high["ordered"] - high["net_demand"]).cumsum()
     assert [*high["position"]] == [*(scenario.initial + gone)]
-    for name in ("low", "high"):
-        assert f">{name} (" in found.plot().svg
     assert pickle.loads(pickle.dumps(found)) == found
 
 

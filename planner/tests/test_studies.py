@@ -17,6 +17,7 @@ from crnplan.theory import suggestions
 from planner.studies import (
     costs,
     __main__,
+    beside_rules,
     borrowing,
     by_commands,
     cut_sales,
@@ -261,20 +262,28 @@ def test_no_row_is_missing(top: Path) -> None:
 
 
 def test_stored_seasons(top: Path) -> None:
-    """At most 2% of classes without a season are taken for having one, and plans by month need less stock."""
+    """At most 2% of classes without a season are taken for having one, and plans by two weeks need less stock."""
     table = stored(top, "seasons")
     assert len(table) == len(seasons.CASES)
     assert (table.query("season == 'none'")["seen"] <= 0.02).all()
     assert table.query("season == 'none'")["some"].max() <= 0.06
     assert table.query("kind != 'half turned'")["own"].max() <= 1 / 180
-    table = stored(top, "season_plans").query("way == 'monthly'")
+    table = stored(top, "season_plans").query("way == 'seasonal'")
     assert len(table) == 2 * len(season_plans.CASES)
-    assert (table.query("season == 'strong'")["at_equal_fill"] < 0.9).all()
+    assert (table.query("season == 'strong'")["at_equal_fill"] < 0.84).all()
+    assert (table.query("season == 'peak'")["at_equal_fill"] < 0.67).all()
+    short = table.query("season != 'none' and wanted == 0.95")
+    assert ((short["fill"] - 0.95).abs() < 0.011).all()
     assert (table.query("season == 'none'")["at_equal_fill"] - 1).abs().max() < 0.02
     table = stored(top, "season_year")
     assert len(table) == len(season_year.CASES)
-    missed, is_strong = table["promised"] - table["fill"], table["season"] == "strong"
-    assert missed[is_strong].abs().max() < 0.006 and missed.max() < 0.02
+    for season, (share, stock, cost) in {
+        "strong": (0.004, 0.03, 0.02),
+        "peak": (0.007, 0.07, 0.04),
+    }.items():
+        own = table[table["season"] == season]
+        assert (own["promised"] - own["fill"]).abs().max() < share
+        assert own["stock"].max() < stock and own["cost"].max() < cost
 
 
 def test_levels_of_a_shop() -> None:
@@ -331,7 +340,7 @@ def test_shop_of_sales(monkeypatch: pytest.MonkeyPatch) -> None:
 
 
 def test_small_part_of_real_seasons(top: Path) -> None:
-    """Plans by month of an item with a season have levels for each period; what is stored saves stock everywhere."""
+    """Plans by a season of an item have levels for each period; what is stored saves stock, but of rides."""
     shop = by_commands.made_shop("garden", 30)
     members = tuple(
         Member(name, name, group, counts[: 156 + 8])
@@ -347,9 +356,11 @@ def test_small_part_of_real_seasons(top: Path) -> None:
     flat = season_real.levels_of(known, [None] * 2, 0)
     assert levels.shape == flat.shape == (8, len(NOMINAL), 2)
     assert (levels[0] < flat[0]).any() and known.part(2).moving.members == members[:2]
-    table = stored(top, "season_real").query("way == 'monthly'")
-    assert (table["more"].dropna() < 0).all()
+    table = stored(top, "season_real").query("way == 'seasonal'")
     assert {*table["set"]} == {"homes", "rides", "counts"}
+    rides = table.query("set == 'rides'")
+    assert (rides["more"].abs() < rides["more_error"]).all()
+    assert (table.query("set != 'rides'")["more"].dropna() < -6).all()
 
 
 def test_stored_figures_of_dependence(top: Path) -> None:
@@ -382,3 +393,13 @@ def test_words_of_a_study(study: str) -> None:
     given = command.make_context(study, words[3:]).params
     assert not given["small"] and given.get("jobs", 3) == 3
     assert "out" not in given or given["out"].exists()
+
+
+def test_small_part_of_rules() -> None:
+    """A rule that knows what a kind has needs less stock: seasons by fortnight, or a level that is smoothed."""
+    for kind, better, worse in (
+        ("season", "mean, NB", "item"),
+        ("doubles", "smoothing, NB", "mean, NB"),
+    ):
+        stock = beside_rules.study(kind, (1,), 4, 1).set_index("way")["stock"]
+        assert stock[better] < 0.9 * stock[worse]

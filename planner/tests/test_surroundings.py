@@ -91,7 +91,7 @@ def test_loops_of_a_user_without_a_home(
 PLANNED = ["-m", "crnplan", *PLAN]
 DRAWING = f"""
 import crnplan as crn
-crn.trajectories(crn.Scenario.read("{SCENARIO}"), 4).plot().save("runs.svg")
+crn.trajectories(crn.Scenario.read("{SCENARIO}"), 4).frame.to_csv("runs.csv")
 """
 DRAWN = ["-c", DRAWING]
 
@@ -127,7 +127,7 @@ def test_a_user_without_a_home(
             words,
             told.stderr,
         )
-    assert {path.name for path in room.iterdir()} - before <= {"plan", "runs.svg"}
+    assert {path.name for path in room.iterdir()} - before <= {"plan", "runs.csv"}
 
 
 # Standard streams that are closed, that only the other way is open, and that are on a full disk.

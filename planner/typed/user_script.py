@@ -11,7 +11,6 @@ from crnplan.crnsim.trajectory import Trajectories
 from crnplan.curve.exchange_curve import ExchangeCurve
 from crnplan.decide.verdicts import Decision
 from crnplan.plan.totals import Totals
-from crnplan.plan.what_ifs import Moves
 from crnplan.planned import ItemFigures
 from crnplan.drawing.pictures import Picture
 from crnplan.theory.suggestions import ByTheory, Suggestions
@@ -68,7 +67,6 @@ def item(plan: crn.Plan) -> None:
     assert_type(planned, crn.PlannedItem)
     assert_type(planned.scenario, crn.Scenario)
     assert_type(planned.doubt(), ItemFigures)
-    assert_type(planned.moves(), Moves)
     assert_type(planned.page, str)
 
 
@@ -94,7 +92,6 @@ def laws() -> None:
     assert_type(crn.learn([[1, 2], [0, 3]]).frame, Frame)
     assert_type(crn.Law.of({0: 1, 3: 1}), crn.Law)
     assert_type(crn.Law.of({0: 1, 3: 1}).frame, Frame)
-    assert_type(crn.Law.of({0: 1, 3: 1}).plot(), Picture)
 
 
 def decisions(law: crn.Law) -> None:
@@ -113,6 +110,5 @@ def decisions(law: crn.Law) -> None:
     runs = crn.trajectories(scenario, periods=5)
     assert_type(runs, Trajectories)
     assert_type(runs.frame, Frame)
-    assert_type(runs.plot(), Picture)
     assert_type(runs[0][0].stock, int)
     assert_type(crn.find_program(), Path)

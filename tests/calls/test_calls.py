@@ -3,6 +3,7 @@ from __future__ import annotations
 
 import importlib
 import json
+import re
 import shutil
 import tomllib
 from collections import Counter
@@ -13,7 +14,7 @@ from typing import Any
 
 import pytest
 
-from tools.calls import Function, Names, Pins, Use, libraries, uses_of
+from tools.calls import Function, Names, Pins, Use, led_to, libraries, loop_of, uses_of
 
 HERE = Path(__file__).resolve().parent
 # What no plain function may lead to.
@@ -65,9 +66,42 @@ def uses(top: Path) -> list[Use]:
     return uses_of(top)
 
 
-def test_uses(uses: list[Use], pins: Pins) -> None:
+@pytest.fixture(scope="module")
+def kit(pins: Pins) -> dict[str, set[str]]:
+    """Returns what the functions of the kit's libraries with plain functions use, by their names."""
+    folder = Path(shutil.which("rt") or "rt").resolve().parents[1] / "rlibs"
+    code: dict[str, Any] = {}
+    for name in {plain.partition("::")[0] for plain in pins.plain}:
+        text = (folder / f"{name}.rlib/toolchain/mir.json").read_text("utf-8")
+        code |= dict(json.loads(text))
+    names, used = Names(code), dict[str, set[str]]()
+    for name, its in code.items():
+        function = Function(name, its, names)
+        parts = ((*function.made(it), *function.named(it)) for it in its["body"])
+        used[name] = {it for part in parts for it in part}
+    return used
+
+
+@pytest.fixture(scope="module")
+def repeating(kit: dict[str, set[str]]) -> set[str]:
+    """Returns the functions of the kit that repeat something, but for those that free or format a value."""
+    users: dict[str, set[str]] = {}
+    for name, used in kit.items():
+        for it in used:
+            users.setdefault(it, set()).add(name)
+    found = led_to(
+        users, {name for name in kit if loop_of(name) in kit[name] or name in kit[name]}
+    )
+    return {
+        it
+        for it in found
+        if not it.endswith(("::drop", "++Drop")) and not it.startswith("core::fmt::")
+    }
+
+
+def test_uses(uses: list[Use], pins: Pins, repeating: set[str]) -> None:
     """Each use that is pinned is there, and no other; each plain pattern is for some use."""
-    assert pins.refused(uses) == []
+    assert pins.refused(uses, repeating) == []
     used = {use.of for use in uses}
     assert [plain for plain in pins.plain if not matching(used, plain)] == []
 
@@ -77,18 +111,26 @@ def test_uses(uses: list[Use], pins: Pins) -> None:
     tomllib.loads((HERE / "wrong.toml").read_text("utf-8"))["wrong"],
     ids=lambda wrong: wrong["what"],
 )
-def test_wrong_uses(wrong: dict[str, Any], pins: Pins) -> None:
+def test_wrong_uses(wrong: dict[str, Any], pins: Pins, repeating: set[str]) -> None:
     """Each wrong use is refused beside those that are pinned."""
     pinned = [
-        Use(of, line, "", "")
-        for of, lines in pins.listed.items()
+        use_of(f"{line} uses {of}")
+        for listed in (pins.listed, pins.within)
+        for of, lines in listed.items()
         for line in lines.elements()
     ]
-    new = [Use(*reversed(line.split(" uses ")), "", "") for line in wrong["uses"]]
-    assert pins.refused(pinned) == []
-    assert sorted(pins.refused([*pinned, *new])) == sorted(
+    new = [use_of(line) for line in wrong["uses"]]
+    assert pins.refused(pinned, repeating) == []
+    assert sorted(pins.refused([*pinned, *new], repeating)) == sorted(
         f"new: {line}" for line in wrong["uses"]
     )
+
+
+def use_of(line: str) -> Use:
+    """Returns the use that a line says."""
+    by, of = line.split(" uses ")
+    how = "".join(it.group() for it in re.finditer(r"\b(?:if|loop) ", by))
+    return Use(of, by.removeprefix(how), how, "")
 
 
 def test_a_use_in_a_branch_and_a_loop() -> None:
@@ -131,6 +173,21 @@ def test_arguments_are_followed_to_their_source() -> None:
 NINE = {"Opd": {"Int": {"value": 9}}}
 SIZE = ("Seq", call("size", into=3))
 ROOM = call("room", {"Copy": place(3)}, into=4)
+
+
+def test_an_argument_that_the_same_turn_of_a_loop_stores_is_known() -> None:
+    """The last store is in that turn, whatever the loop stores later; in a loop within it is not."""
+    turn = (
+        "Seq",
+        {"Assign": [place(3), {"Opd": {"Copy": place(2)}}]},
+        "Seq",
+        ROOM,
+        assigned(3, NINE),
+    )
+    used = uses_in(*SIZE, "Loop", *turn)
+    assert [it.arguments for it in used if it.of == "room"] == ["(arg2)"]
+    inner = uses_in(*SIZE, "Loop", *turn[:2], "Loop", *turn[2:])
+    assert [it.arguments for it in inner if it.of == "room"] == ["(..)"]
 
 
 @pytest.mark.parametrize(
@@ -186,24 +243,77 @@ def test_pins() -> None:
     }
 
 
-def test_what_is_plain_takes_no_step(pins: Pins) -> None:
+def test_whole_crates() -> None:
+    """In a crate that is listed whole, a call is refused, of a function of the repository or of one that repeats
+    something; a value, what frees one, and what is plain and short are free. In one that
+    is listed for its loops only the latter is refused, and elsewhere neither."""
+    pins = Pins.of(
+        """
+        plain = ["core::*"]
+        [[group]]
+        whole = ["crn_a"]
+        loops = ["crn_d"]
+        [group.uses]
+        "crn_b::asked" = ["crn_a::f"]
+        """
+    )
+    asked = Use("crn_b::asked", "crn_a::f", "", "")
+    free = [
+        "crn_b::Value {",
+        "crn_a::Value+Destruct::drop",
+        "crn_b::ValueEq",
+        "core::max",
+    ]
+    uses = [asked, *(Use(of, "crn_a::f", "", "") for of in free)]
+    assert pins.refused(uses, {"core::fold"}) == []
+    calls = [Use(of, "crn_a::f", "", "") for of in ("core::fold", "crn_b::pick")]
+    assert pins.refused([*uses, *calls], {"core::fold"}) == [
+        "new: crn_a::f uses core::fold",
+        "new: crn_a::f uses crn_b::pick",
+    ]
+    elsewhere = [it._replace(by="crn_c::f") for it in (asked, *calls)]
+    assert pins.refused([asked, *elsewhere], {"core::fold"}) == []
+    model = [it._replace(by="crn_d::f") for it in calls]
+    assert pins.refused([asked, *model], {"core::fold"}) == [
+        "new: crn_d::f uses core::fold"
+    ]
+
+
+def test_a_function_that_calls_itself(monkeypatch: pytest.MonkeyPatch) -> None:
+    """It has a loop of its crate, also if it calls itself through another; one that only calls it has none."""
+    calls = {"crn_a::f": "crn_b::g", "crn_b::g": "crn_a::f", "crn_a::h": "crn_a::f"}
+    generics: dict[str, Any] = {"impls": [], "bounds": [], "method_of": None}
+    code = {"params": 0, "locals": LOCALS, "types": [], "generics": generics}
+    found = {
+        name: Function(name, {**code, "body": [call(of, into=1)]}, Names({}))
+        for name, of in calls.items()
+    }
+    monkeypatch.setattr("tools.calls.functions", lambda _: found)
+    loops = [(it.of, it.by) for it in uses_of() if "{loop}" in it.of]
+    assert loops == [("crn_a::{loop}", "crn_a::f"), ("crn_b::{loop}", "crn_b::g")]
+
+
+@pytest.mark.parametrize(
+    "steps", [[], [{"Deref": {"Named": [{"name": "crn_a::Made"}, []]}}]]
+)
+def test_a_stored_field_makes_a_value(steps: list[Any]) -> None:
+    """Of the type in which it stands, by itself or behind an address."""
+    stored = {"Assign": [place(3, *steps, {"Field": 0}), NINE]}
+    function = Function("f", {**MADE, "body": [stored]}, Names({}))
+    assert [it.of for it in function.uses()] == ["crn_a::Made {"]
+
+
+MADE: dict[str, Any] = {
+    "params": 0,
+    "locals": [*LOCALS[:3], {**LOCAL, "ty": {"Named": [{"name": "crn_a::Made"}, []]}}],
+    "types": [],
+    "generics": {"impls": [], "bounds": [], "method_of": None},
+}
+
+
+def test_what_is_plain_takes_no_step(pins: Pins, kit: dict[str, set[str]]) -> None:
     """What the code of the kit leads to from what is plain is no step of the processor or the system, and makes no error
     of it."""
-    kit = Path(shutil.which("rt") or "rt").resolve().parents[1] / "rlibs"
-    code: dict[str, Any] = {}
-    for name in {plain.partition("::")[0] for plain in pins.plain}:
-        text = (kit / f"{name}.rlib/toolchain/mir.json").read_text("utf-8")
-        code |= dict(json.loads(text))
-    names = Names(code)
-    waiting = [it for it in code if any(fnmatchcase(it, plain) for plain in pins.plain)]
-    reached = {*waiting}
-    while waiting:
-        function = Function(name := waiting.pop(), code[name], names)
-        parts = code[name]["body"]
-        used = {
-            it for part in parts for it in (*function.made(part), *function.named(part))
-        }
-        assert [it for it in used if it.startswith(STEPS)] == []
-        new = {it for it in used if it in code} - reached
-        reached |= new
-        waiting += new
+    plain = [it for it in kit if any(fnmatchcase(it, plain) for plain in pins.plain)]
+    for name in led_to({it: used & kit.keys() for it, used in kit.items()}, plain):
+        assert [it for it in kit[name] if it.startswith(STEPS)] == [], name

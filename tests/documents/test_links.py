@@ -82,6 +82,7 @@ def test_no_page_is_left_out() -> None:
     """Each page of the folders of the core is counted, but for those in which one looks things up."""
     looked_up = {
         "CHANGELOG.md",
+        "docs/STATEMENT.md",
         "docs/TABLES.md",
         "examples/case/README.md",
         "planner/README.md",

@@ -40,7 +40,7 @@ pub fn above(n: u64) -> u64
     next(n) + 2
 }
 """
-# The words of the check that name functions, and a verdict on each.
+# The words of the check that name functions, and a verdict on each; and the kept work, of which it says what it finds.
 PROVER = """#!/bin/sh
 echo "$*" >> {room}/asked
 read -r verdict < {room}/verdict
@@ -48,6 +48,10 @@ case $verdict in crashes) kill -SEGV $$ ;; esac
 for word; do
     case $before in
     --only) echo "fn tiny::$word: $verdict" ;;
+    --incremental)
+        mkdir -p "$word"
+        echo $(ls "$word") >> {room}/found
+        touch "$word/proved" ;;
     esac
     before=$word
 done
@@ -397,6 +401,18 @@ def test_old_verdicts_are_removed(repository: Repository) -> None:
     os.utime(path, (0, 0))
     assert ends(repository.run(REFUSES)) == passed(1, 0)
     assert len(repository.kept) == 1 and repository.kept != [path]
+
+
+def test_rounds_begin_where_the_last_ones_ended(repository: Repository) -> None:
+    """What checks have proved is left to the next rounds. With --anew it counts for nothing; the crate's own comes first."""
+    for words in ((), (), ("--anew",), ()):
+        CHANGES["a proof"](repository)
+        repository.run(REFUSES, *words)
+    write(repository.top / "crates" / "tiny" / "out" / "incremental" / "own", "")
+    CHANGES["a proof"](repository)
+    repository.run(REFUSES)
+    found = (repository.room / "found").read_text("utf-8")
+    assert found.splitlines() == ["", "proved", "", "proved", "own"]
 
 
 def test_stale_library_is_refused(repository: Repository) -> None:

@@ -120,6 +120,20 @@ END
 exit 1
 """
 IS_SILENT = "#!/bin/sh\necho 'fn tiny::next: not proved'\nexit 1\n"
+# A prover that says of the second of three functions, and of the third, only that they call the first.
+HIDES = """#!/bin/sh
+count=0
+for word; do
+    [ "$before" = --only ] && count=$((count + 1)) && functions="$functions $word"
+    before=$word
+done
+for function in $functions; do
+    echo "fn tiny::$function: ${says:-\\`search\\` did not prove \\`returns\\`}"
+    [ $count -gt 2 ] && says="no proof: it calls \\`tiny::above\\`, which is not proved"
+done
+echo logic=not-proved
+exit 1
+"""
 # No prover but the kit's, and no control first.
 NO_CONTROL = ""
 
@@ -253,6 +267,12 @@ CASES = [
             "above": "",
         },
         NO_CONTROL,
+    ),
+    (
+        "edits that one hides, which then share a check",
+        {"next": TWO_MORE, "following": OTHER_FOLLOWS, "above": ANOTHER_SUM},
+        {"next": "", "following": "", "above": ""},
+        HIDES,
     ),
     (
         "a prover that crashes",
@@ -512,7 +532,7 @@ def test_wrong_implementations(
 
     def cases() -> Iterator[Case]:
         yield from ((edit, of_edit(edit, lines, part)) for edit, part in wanted.items())
-        if prover == NO_CONTROL:
+        if prover in (NO_CONTROL, HIDES):
             yield "the others share a check", any(
                 it.startswith("tiny: 2 edits, ") for it in lines
             ) or str(lines)

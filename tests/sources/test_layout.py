@@ -4,6 +4,8 @@ are within one another."""
 from __future__ import annotations
 
 import ast
+import os
+import signal
 import subprocess
 import sys
 from collections.abc import Iterator
@@ -18,8 +20,15 @@ NESTING = (ast.For, ast.While, ast.If, ast.With, ast.Try)
 def ill_laid(*paths: Path) -> str:
     """Returns what black would write anew of files and folders, in its words; empty if it would leave all alone."""
     black = [sys.executable, "-m", "black", "--check", *map(str, paths)]
-    ran = subprocess.run(black, capture_output=True, text=True, timeout=120)
-    return ran.stderr if ran.returncode else ""
+    with subprocess.Popen(
+        black, stderr=subprocess.PIPE, text=True, start_new_session=True
+    ) as ran:
+        try:
+            said = ran.communicate()[1]
+        except BaseException:  # Black has processes of its own, which would go on.
+            os.killpg(ran.pid, signal.SIGKILL)
+            raise
+    return said if ran.returncode else ""
 
 
 def body_lines(function: ast.FunctionDef) -> int:

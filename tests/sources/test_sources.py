@@ -9,8 +9,11 @@ from typing import Any
 import pytest
 
 from tests.sources.rules import Tokens, names_of, tokens_of, without_clause
+from tools.calls import PROGRAM, libraries
 
 HERE = Path(__file__).resolve().parent
+# What leaves an item out of the check that it stands in, or writes one that no source shows.
+LEAVES_OUT = {"cfg", "macro_rules", "test"}
 # What a search by lines or by letters would take for no code.
 HIDDEN = """
 fn hidden()
@@ -33,9 +36,10 @@ def listed(name: str) -> dict[str, Any]:
 def sources(top: Path) -> dict[str, Tokens]:
     """Returns the tokens of each source of the program's crates, by its name."""
     crates = top / "crates"
-    paths = sorted(crates.glob("crn*/src/**/*.rt"))
-    names = (str(path.relative_to(crates)) for path in paths)
-    return dict(zip(names, tokens_of(*paths), strict=True))
+    names = [*libraries(top), PROGRAM]
+    paths = [it for name in names for it in sorted(crates.glob(f"{name}/src/**/*.rt"))]
+    files = (str(path.relative_to(crates)) for path in paths)
+    return dict(zip(files, tokens_of(*paths), strict=True))
 
 
 def test_functions_without_clause(sources: dict[str, Tokens]) -> None:
@@ -43,6 +47,12 @@ def test_functions_without_clause(sources: dict[str, Tokens]) -> None:
     silent = {name: sorted(without_clause(text)) for name, text in sources.items()}
     expected = {name: sorted(it) for name, it in listed("no_clause.toml").items()}
     assert {name: found for name, found in silent.items() if found} == expected
+
+
+def test_no_item_is_left_out(sources: dict[str, Tokens]) -> None:
+    """Each contract that a source shows is that of the code which is built, so pages can quote it from there."""
+    left_out = {name: LEAVES_OUT & names_of(it).keys() for name, it in sources.items()}
+    assert {name: found for name, found in left_out.items() if found} == {}
 
 
 def test_names_of_the_program(sources: dict[str, Tokens]) -> None:
@@ -76,3 +86,22 @@ def test_hidden_names(tmp_path: Path) -> None:
     (tokens,) = tokens_of(tmp_path / "hidden.rt")
     assert (names_of(tokens)["block"], names_of(tokens)["made"]) == (4, 0)
     assert without_clause(tokens) == []
+
+
+@pytest.mark.parametrize(
+    ("text", "found"),
+    [
+        (
+            "#[cfg(test)]\npub fn run_all() -> bool\n    ensures { strong }\n{}\n",
+            {"cfg", "test"},
+        ),
+        ("macro_rules! made { () => {} }\n", {"macro_rules"}),
+        ("pub fn run_all() -> bool\n    ensures { test }\n{\n    true\n}\n", set()),
+    ],
+    ids=["cfg", "macro", "clause"],
+)
+def test_left_out_item_is_seen(text: str, found: set[str], tmp_path: Path) -> None:
+    """A contract that is shown and not checked is found."""
+    (tmp_path / "planted.rt").write_text(text, "utf-8")
+    (tokens,) = tokens_of(tmp_path / "planted.rt")
+    assert LEAVES_OUT & names_of(tokens).keys() == found

@@ -6,6 +6,7 @@ import tomllib
 from pathlib import Path
 from typing import Any
 
+import psutil
 import pytest
 
 from .machine import Machine, Ran, changed, write_script
@@ -15,6 +16,7 @@ PYTHON = r"""
 case "$*" in
 *mypy*) part=types ;;
 *planner.lines*) part=lines ;;
+*planner.touched*) echo "map: $*" >>"$LOG"; exit ;;
 *"-m not serial"*) part=suites ;;
 *"-m serial"*) part=serial ;;
 *" tests/sources") part=sources ;;
@@ -45,8 +47,8 @@ PARTS = list(WELL)
 FAULTS = tomllib.loads(Path(__file__).with_name("gate.toml").read_text("utf-8"))[
     "fault"
 ]
-# What runs beside the part before or behind it.
-BESIDE = ("types", "rounds")
+# What runs beside the part before or behind it, and what is no part.
+BESIDE = ("types", "rounds", "map")
 
 
 @pytest.fixture
@@ -98,6 +100,7 @@ def test_types_run_beside_the_proofs_and_the_suites_beside_the_rounds(
     write_script(machine.top / "tools" / "rounds.py", rounds)
     gate(machine)
     began = [it.split(":")[0] for it in machine.logged()]
+    began.remove("map")
     assert began == [
         "setup",
         "sources",
@@ -113,15 +116,13 @@ def test_types_run_beside_the_proofs_and_the_suites_beside_the_rounds(
 def test_tests_run_once_each(machine: Machine) -> None:
     gate(machine)
     words = dict(it.split(": ", 1) for it in machine.logged())
-    suites, measured = words["suites"].split(" --lines ")
-    folder, _, tested = measured.partition(" ")
-    assert (
-        suites.endswith(" -m not serial --ignore tests/sources")
-        and tested == "tests planner/tests"
-    )
+    suites, folder = words["suites"].removesuffix(" --mapped").split(" --lines ")
+    assert suites.endswith(" -m not serial --ignore tests/sources")
+    assert " tests planner/tests -n " in suites
     assert words["lines"] == f"-m planner.lines {folder}"
+    assert words["map"] == f"-m planner.touched {folder}"
     assert words["serial"].endswith(" -m serial --ignore tests/sources")
-    assert " -n " in suites and " -n " not in words["serial"]
+    assert " -n " not in words["serial"]
 
 
 @pytest.mark.parametrize("case", FAULTS, ids=lambda it: it["id"])
@@ -188,14 +189,43 @@ def test_set_up_that_fails_ends_the_gate(machine: Machine) -> None:
     assert len(machine.logged()) == 1
 
 
-def test_rounds_may_read_no_kept_verdict(machine: Machine) -> None:
+def test_nothing_that_is_kept_may_be_read(machine: Machine) -> None:
+    """With --anew all edits are judged, and all tests measured."""
     gate(machine)
     machine.run(".ci/run", "--anew")
-    asked = [it for it in machine.logged() if it.startswith("rounds: ")]
+    logged = machine.logged()
+    asked = [it for it in logged if it.startswith("rounds: ")]
     assert asked == ["rounds: --proved", "rounds: --proved --anew"]
+    assert ["--mapped" in it for it in logged if "--lines" in it] == [True, False]
     ran = machine.run(".ci/run", "--any")
     assert (ran.returncode, ran.stderr) == (2, ".ci/run: it takes no word but --anew\n")
-    assert len(machine.logged()) == 2 * len(PARTS)
+    assert len(machine.logged()) == 2 * (len(PARTS) + 1)
+
+
+def test_map_of_a_gate_that_fails_is_not_kept(machine: Machine) -> None:
+    gate(machine, lines=(1, "1 lines of crnplan are not run by any test; 1 faults"))
+    assert not [it for it in machine.logged() if it.startswith("map: ")]
+
+
+@pytest.mark.parametrize("part", ["types", "rounds", "suites"])
+def test_failure_is_said_at_once(machine: Machine, part: str) -> None:
+    """Also that of a part beside others, whose own words come later."""
+    ran = gate(machine, **{part: (1, "0 passed, 1 failed")})
+    assert ran.stderr == f".ci/run: {part} has failed, after 0 minutes\n"
+
+
+def test_what_runs_beside_ends_with_the_gate(machine: Machine) -> None:
+    """The rounds and what they have started do not go on once the gate is stopped."""
+    rounds = PART.format("rounds").partition("\n")[0]
+    waiting = f'{rounds}\nsleep 1000 & echo $! >"$HOME/waiting"; wait'
+    write_script(machine.top / "tools" / "rounds.py", waiting)
+    python = machine.top / ".venv" / "bin" / "python"
+    stop = BEHIND.format("rounds") + '; sleep 0.2; kill -TERM "$PPID"'
+    changed(python, "part=suites", "part=suites; " + stop)
+    assert gate(machine).returncode == 143
+    wait_procs = psutil.wait_procs
+    left = int((machine.folder / "waiting").read_text("utf-8"))
+    assert not psutil.pid_exists(left) or wait_procs([psutil.Process(left)], 10)[0]
 
 
 def test_rounds_judge_over_libraries_that_are_proved(machine: Machine) -> None:

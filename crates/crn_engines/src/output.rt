@@ -1,6 +1,7 @@
 //! Writing an output whole.
-ghost use Rattle.std.specs.Prelude.{OnOk, OnErr};
-ghost use Rattle.std.specs.Io.KnownBytes.{Appends};
+ghost use Rattle.std.specs.Prelude.{◌<◌, OnOk, OnErr, length};
+ghost use Rattle.std.specs.Io.{WritesAtMost};
+ghost use Rattle.std.specs.Io.KnownBytes.{Appends, WriteAppends};
 ghost use Rattle.crn_engines.specs.Bytes.{AppendsFront};
 
 use std::io;
@@ -15,6 +16,17 @@ pub enum WriteFault {
     NoByte,
 }
 
+// One turn: writes some of a text that is not empty, so that a write which takes no byte is a fault. That a turn makes one write
+// and no more, of all that it is given, no contract says of a writer that shows no bytes; `tests/calls` does.
+#[inline(always)]
+fn write_some<W: Write>(writer: &mut W, text: &[u8]) -> io::Result<usize>
+    requires some { 0 < length text.now }
+    ensures bound { WritesAtMost result text.now }
+    ensures bytes { WriteAppends (W.contents writer.old) (W.contents writer.new) result text.now }
+{
+    writer.write(text)
+}
+
 /// Writes the whole text, or a prefix of it.
 pub(crate) fn write_text<W: Write>(writer: &mut W, text: &[u8]) -> Result<(), WriteFault>
     ensures whole { OnOk result (Appends (W.contents writer.old) (W.contents writer.new) text.now) }
@@ -22,7 +34,7 @@ pub(crate) fn write_text<W: Write>(writer: &mut W, text: &[u8]) -> Result<(), Wr
 {
     let mut sent = 0;
     while sent < text.len() {
-        match writer.write(&text[sent..]) {
+        match write_some(writer, &text[sent..]) {
             Ok(0) => return Err(WriteFault::NoByte),
             Ok(count) => sent += count,
             Err(error) => return Err(WriteFault::Failed(error)),

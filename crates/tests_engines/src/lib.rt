@@ -1,15 +1,12 @@
-//! Tests of the engines on whole texts, with readers and writers that fail.
+//! Tests of what only calls show of the texts and the engines: rows, numbers of the command line, faults, and where public
+//! names are. What the program shows is tested from outside, by tests/program and tests/hostile.
 #![tactic(auto)]
 
 #[cfg(test)]
-mod fakes;
-#[cfg(test)]
-mod legs;
-#[cfg(test)]
-mod migrations;
+mod faults;
 #[cfg(test)]
 mod names;
 #[cfg(test)]
-mod replays;
+mod numbers;
 #[cfg(test)]
-mod runs;
+mod rows;

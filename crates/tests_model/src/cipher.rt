@@ -1,12 +1,9 @@
 //! The cipher and its blocks against words of Random123.
 
-ghost use Rattle.std.specs.Prelude.{◌≡◌, ◌<◌};
-ghost use Rattle.crn_cipher.specs.Blocks.{BlockWords};
-
 mod vectors;
 
-use crate::words::{BLOCK_VECTORS, NAMES_AND_COUNTERS, ONES_BLOCK, ZERO_BLOCK, words_by_stream};
-use crn_cipher::{BLOCK_WORDS, Block, STREAMS, block, threefry, unthreefry};
+use crate::words::{BLOCK_VECTORS, NAMES_AND_COUNTERS, ONES_BLOCK, words_by_stream};
+use crn_cipher::{STREAMS, block, threefry, unthreefry};
 use vectors::VECTORS;
 
 // The words of a line, of 16 hexadecimal digits each: four of the key, four of the counter and four of the output. None
@@ -69,48 +66,10 @@ fn outputs_of_random123(rt: HostRuntime) {
 }
 
 #[test]
-fn first_block_of_the_zero_key(rt: HostRuntime) {
-    let first = block([0; 4], 0);
-    assert_eq!(rt; (first.key, first.number), ([0; 4], 0));
-    assert_eq!(rt; first.demand.as_slice(), &ZERO_BLOCK[..4]);
-}
-
-const ONES: [u64; 4] = [u64::MAX; 4];
-
-// The words of a block, read one by one.
-fn words_of(block: &Block) -> [u64; BLOCK_WORDS]
-    ensures { result ≡ BlockWords block.now.key block.now.number }
-{
-    let mut words = [0; BLOCK_WORDS];
-    for i in 0..BLOCK_WORDS {
-        words[i] = block.word(i);
-    }
-    words
-}
-
-#[test]
-fn words_of_a_block_in_order(rt: HostRuntime) {
-    assert_eq!(rt; words_of(&block(ONES, 0)), ONES_BLOCK);
-}
-
-#[test]
 fn words_of_each_stream(rt: HostRuntime) {
-    assert_eq!(rt; words_by_stream(&block(ONES, 0)), Some(ONES_BLOCK));
+    assert_eq!(rt; words_by_stream(&block([u64::MAX; 4], 0)), Some(ONES_BLOCK));
     assert_eq!(rt; NAMES_AND_COUNTERS.len(), STREAMS.len());
     for (stream, (name, counter)) in STREAMS.iter().zip(NAMES_AND_COUNTERS) {
         assert_eq!(rt; (stream.name(), stream.counter()), (*name, *counter));
     }
-}
-
-// The block of the same key and number as another, from its words.
-fn again(made: &Block) -> Block {
-    Block::from_words(made.key, made.number, words_of(made))
-}
-
-#[test]
-fn a_block_from_its_words(rt: HostRuntime) {
-    let made = block(ONES, 0);
-    let again = again(&made);
-    assert_eq!(rt; (again.key, again.number), (ONES, 0));
-    assert_eq!(rt; again, made);
 }

@@ -14,7 +14,7 @@ struct Example {
     draws: &'static [(u64, u32)],
 }
 
-static EXAMPLES: [Example; 7] = [
+static EXAMPLES: [Example; 8] = [
     // Places 0, 2, 1 and 5 of 1, 2, 2, 3, 3, 4.
     Example {
         values: &[1, 2, 3, 4],
@@ -53,6 +53,19 @@ static EXAMPLES: [Example; 7] = [
         draws: &[
             (6_148_914_691_236_517_205, 1),
             (6_148_914_691_236_517_206, 2),
+        ],
+    },
+    // 0 in the first four tenths, 5 in the last one.
+    Example {
+        values: &[0, 1, 2, 5],
+        weights: &[4, 3, 2, 1],
+        draws: &[
+            (0, 0),
+            (7_378_697_629_483_820_646, 0),
+            (7_378_697_629_483_820_647, 1),
+            (16_602_069_666_338_596_454, 2),
+            (16_602_069_666_338_596_455, 5),
+            (u64::MAX, 5),
         ],
     },
     // The largest value that a draw can have.

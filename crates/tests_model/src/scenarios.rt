@@ -61,8 +61,7 @@ pub fn costs_of(setup: u64, unit: u64, holding: u64, backlog: u64) -> Costs
     }
 }
 
-/// Returns the model of these parts. Tests make all models here and by `checked_model`, so that a new key of a scenario
-/// changes no other call.
+/// Returns the model of these parts. Tests make all models here, so that a new key of a scenario changes no other call.
 ///
 /// # Asks
 ///
@@ -80,18 +79,6 @@ pub fn model_with(
     ensures { result ≡ model_of periods replications initial costs demand lead returns }
 {
     Model::new(periods, replications, initial, costs, demand, lead, returns)
-}
-
-/// Returns what `Model::checked` answers to these parts, for a model without returns.
-pub fn checked_model(
-    periods: u64,
-    replications: u64,
-    initial: i64,
-    costs: Costs,
-    demand: Weights,
-    lead: Weights,
-) -> Option<Model> {
-    Model::checked(periods, replications, initial, costs, demand, lead, None)
 }
 
 /// Returns the base model: an initial stock of 60, demands of 1 to 4 with the weights 1, 2, 2 and 1, and lead times of 1.
@@ -193,10 +180,6 @@ pub enum Slots {
     Two,
     /// 64 slots.
     SixtyFour,
-    /// 128 slots, the least of a large ring.
-    LeastLarge,
-    /// 1,024 slots, the most.
-    Most,
 }
 
 impl Slots {
@@ -208,28 +191,8 @@ impl Slots {
             Slots::One => 1,
             Slots::Two => 2,
             Slots::SixtyFour => 64,
-            Slots::LeastLarge => 128,
-            Slots::Most => 1_024,
         }
     }
-}
-
-/// Returns a list of one policy, A.
-///
-/// # Asks
-///
-/// `low` is at most `high`, and `high` at most 100.
-///
-/// # Errors
-///
-/// `AllocError` if an allocation fails.
-pub fn one_policy(alloc: Global, levels: Levels) -> Result<Vec<Policy>, AllocError>
-    requires { (levels.low ≤ levels.high) × (levels.high ≤ 100) }
-    ensures { IfOk result (λ ps. (ring : ℕ) → IsRingSize ring → AreForScenario ring ps.items) }
-{
-    let only = policy(alloc, "A", levels)?;
-    let policies = vec![in alloc; only]?;
-    Ok(policies)
 }
 
 // Policies A and B of these levels.
@@ -245,8 +208,8 @@ fn two_policies(alloc: Global, a: Levels, b: Levels) -> Result<Vec<Policy>, Allo
     Ok(policies)
 }
 
-/// Returns the scenario of these parts. Tests make all scenarios here and by `checked_scenario`, so that a new part of
-/// a scenario changes no other call.
+/// Returns the scenario of these parts. Tests make all scenarios here, so that a new part of a scenario changes no other
+/// call.
 ///
 /// # Asks
 ///
@@ -256,16 +219,6 @@ pub fn scenario_with(key: [u64; 4], ring: u64, model: Model, policies: Vec<Polic
     ensures { result ≡ record { key = key; ring = ring; model = model; policies = policies.items } }
 {
     Scenario::new(key, ring, model, policies)
-}
-
-/// Returns what `Scenario::checked` answers to these parts.
-pub fn checked_scenario(
-    key: [u64; 4],
-    ring: u64,
-    model: Model,
-    policies: Vec<Policy>,
-) -> Option<Scenario> {
-    Scenario::checked(key, ring, model, policies)
 }
 
 /// Returns a scenario of the zero key and of a model, with policies A and B.

@@ -107,13 +107,6 @@ fn base_scenario(rt: HostRuntime) -> Result<(), Fail> {
 }
 
 #[test]
-fn base_scenario_side_by_side(rt: HostRuntime) -> Result<(), Fail> {
-    let end = base_shown(rt.alloc(), 1, &[1], Way::SideBySide)?;
-    assert_eq!(rt; end, Some((1, [[Some(222), None], [Some(359), None]])));
-    Ok(())
-}
-
-#[test]
 fn a_leg_of_no_blocks(rt: HostRuntime) -> Result<(), Fail> {
     let stays = base_shown(rt.alloc(), 2, &[1, 1, 1], Way::InTurn)?;
     assert_eq!(rt; stays, Some((1, [[Some(222), None], [Some(359), None]])));

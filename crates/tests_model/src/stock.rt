@@ -1,38 +1,18 @@
-//! Examples of single periods, of blocks and of whole runs, worked out by hand from the model's rules. `returns` has those
-//! with returned items, `sizes` calls at the ends of all ranges, `checked` the calls that judge and compare.
+//! Single periods and states, worked out by hand from the model's rules. Whole runs, and amounts at the ends of their
+//! ranges, are tested on the program: tests/program/reports.toml and amounts.toml.
 
-ghost use Rattle.std.specs.Prelude.{◌≡◌, ◌≤◌, ◌≤ℤ◌, pos, IfOk};
-ghost use Rattle.crn_stock.specs.Models.{IsPolicy, total};
+ghost use Rattle.std.specs.Prelude.{◌≡◌, ◌≤◌};
+ghost use Rattle.crn_stock.specs.Models.{IsPolicy};
 ghost use Rattle.crn_stock.specs.Stock.{IsOf, IsBetween};
 
-mod checked;
-mod returns;
-mod sizes;
-
 use crate::scenarios::{
-    Levels, Slots, always, base_model, costs_of, first_other_line, fixed_draws, model_with,
-    one_policy, policy, scenario_with, steady_model,
+    Levels, always, base_model, costs_of, first_other_line, fixed_draws, model_with, policy,
+    steady_model,
 };
 use crn_cipher::block;
-use crn_stock::{Costs, Model, Policy, RestoreFault, Scenario, State};
+use crn_stock::{Model, Policy, RestoreFault, State};
 use std::alloc::{AllocError, Global};
 use std::test::Fail;
-
-// A model with demands of 2 and lead times of 2, so that orders arrive late.
-fn late(alloc: Global, periods: u32, replications: u32, initial: i64) -> Result<Model, AllocError>
-    requires periods { (1 ≤ periods) × (periods ≤ 1024) }
-    requires replications { (1 ≤ replications) × (replications ≤ 256) }
-    requires initial { (pos 0 ≤ℤ initial) × (initial ≤ℤ pos 1000000) }
-{
-    let costs = costs_of(10, 1, 1, 4);
-    let (demand, lead) = fixed_draws(alloc, 2, 2)?;
-    Ok(model_with(periods, replications, initial, costs, demand, lead, None))
-}
-
-// Two replications of five periods, so that each ends within its second block.
-fn twice(alloc: Global) -> Result<Model, AllocError> {
-    steady_model(alloc, 5, 2, 1, None)
-}
 
 // The draws of a period (demand, lead time, returned items), and what the state shows after it: the stock, the position,
 // the running cost, and the items due in the next period and in the one after.
@@ -129,9 +109,11 @@ static LATE_ORDERS: [Expected; 4] = [
     ([2, 2, 0], -5, -1, 83, [4, 0]),
 ];
 
-// Whether the late model does what is expected of late orders.
+// Whether orders arrive late in a model with demands of 2 and lead times of 2.
 fn late_begins(alloc: Global) -> Result<bool, AllocError> {
-    let model = late(alloc, 5, 1, 0)?;
+    let costs = costs_of(10, 1, 1, 4);
+    let (demand, lead) = fixed_draws(alloc, 2, 2)?;
+    let model = model_with(5, 1, 0, costs, demand, lead, None);
     begins(alloc, &model, Levels { low: 1, high: 3 }, &LATE_ORDERS)
 }
 
@@ -139,6 +121,36 @@ fn late_begins(alloc: Global) -> Result<bool, AllocError> {
 fn late_orders(rt: HostRuntime) -> Result<(), Fail> {
     let begins = late_begins(rt.alloc())?;
     assert!(rt; begins);
+    Ok(())
+}
+
+// The review of period 3 sees a stock of 4, without the item that is returned in that period.
+static ORDER_BEFORE_RETURNS: [Expected; 8] = [
+    ([3, 1, 1], 8, 8, 8, [0, 0]),
+    ([3, 1, 1], 6, 6, 14, [0, 0]),
+    ([3, 1, 1], 4, 4, 18, [0, 0]),
+    ([3, 1, 1], 2, 8, 39, [6, 0]),
+    ([3, 1, 1], 6, 6, 45, [0, 0]),
+    ([3, 1, 1], 4, 4, 49, [0, 0]),
+    ([3, 1, 1], 2, 8, 70, [6, 0]),
+    ([3, 1, 1], 6, 6, 76, [0, 0]),
+];
+
+// Whether this is so where one item is returned in each period.
+fn orders_before_returns(alloc: Global) -> Result<bool, AllocError> {
+    let returns = always(alloc, 1)?;
+    let model = steady_model(alloc, 9, 2, 1, Some(returns))?;
+    begins(
+        alloc,
+        &model,
+        Levels { low: 5, high: 10 },
+        &ORDER_BEFORE_RETURNS,
+    )
+}
+
+#[test]
+fn order_before_returns(rt: HostRuntime) -> Result<(), Fail> {
+    assert!(rt; orders_before_returns(rt.alloc())?);
     Ok(())
 }
 
@@ -155,58 +167,6 @@ fn ends(model: &Model, policy: &Policy, mut state: State, costs: &[u64]) -> bool
         state.take_block(model, policy, &block([0; 4], number));
     }
     state.costs() == costs && !state.is_open()
-}
-
-// Whether a whole run of the model ends with these costs.
-fn costs_are(
-    alloc: Global,
-    model: &Model,
-    levels: Levels,
-    costs: &[u64],
-) -> Result<bool, AllocError>
-    requires levels { (levels.low ≤ levels.high) × (levels.high ≤ 100) }
-{
-    let policy = policy(alloc, "A", levels)?;
-    Ok(ends(model, &policy, State::start(alloc, model)?, costs))
-}
-
-// The same under each of two policies.
-fn two_costs(
-    alloc: Global,
-    model: &Model,
-    a: Levels,
-    costs_of_a: &[u64],
-    b: Levels,
-    costs_of_b: &[u64],
-) -> Result<bool, AllocError>
-    requires a { (a.low ≤ a.high) × (a.high ≤ 100) }
-    requires b { (b.low ≤ b.high) × (b.high ≤ 100) }
-{
-    Ok(costs_are(alloc, model, a, costs_of_a)? && costs_are(alloc, model, b, costs_of_b)?)
-}
-
-fn base_costs(alloc: Global) -> Result<bool, AllocError> {
-    let model = base_model(alloc, 4, 1)?;
-    let a = Levels { low: 20, high: 40 };
-    let b = Levels { low: 60, high: 80 };
-    two_costs(alloc, &model, a, &[222], b, &[359])
-}
-
-#[test]
-fn one_block(rt: HostRuntime) -> Result<(), Fail> {
-    assert!(rt; base_costs(rt.alloc())?);
-    Ok(())
-}
-
-fn late_costs(alloc: Global) -> Result<bool, AllocError> {
-    let model = late(alloc, 4, 1, 0)?;
-    costs_are(alloc, &model, Levels { low: 1, high: 3 }, &[83])
-}
-
-#[test]
-fn late_block(rt: HostRuntime) -> Result<(), Fail> {
-    assert!(rt; late_costs(rt.alloc())?);
-    Ok(())
 }
 
 // Whether a state shows these amounts, with nothing due later than in the next period.
@@ -247,13 +207,27 @@ fn copies(
     )
 }
 
-fn both_copy(alloc: Global, model: &Model) -> Result<bool, AllocError> {
-    let a = Levels { low: 5, high: 10 };
-    let b = Levels { low: 4, high: 10 };
+// Two replications of five periods, so that each ends within its second block.
+fn twice(alloc: Global) -> Result<Model, AllocError> {
+    steady_model(alloc, 5, 2, 1, None)
+}
+
+const A: Levels = Levels { low: 5, high: 10 };
+
+const B: Levels = Levels { low: 4, high: 10 };
+
+fn both_copy(alloc: Global) -> Result<bool, AllocError> {
+    let model = twice(alloc)?;
     Ok(
-        copies(alloc, model, a, (4, 35, 0), &[55, 55])?
-            && copies(alloc, model, b, (-2, 45, 9), &[49, 49])?,
+        copies(alloc, &model, A, (4, 35, 0), &[55, 55])?
+            && copies(alloc, &model, B, (-2, 45, 9), &[49, 49])?,
     )
+}
+
+#[test]
+fn copied(rt: HostRuntime) -> Result<(), Fail> {
+    assert!(rt; both_copy(rt.alloc())?);
+    Ok(())
 }
 
 // Whether a copy of a state at block 1 shows these amounts.
@@ -287,156 +261,17 @@ fn resumes(
     }
 }
 
-fn both_resume(alloc: Global, model: &Model) -> Result<bool, AllocError> {
-    let a = Levels { low: 5, high: 10 };
-    let b = Levels { low: 4, high: 10 };
-    Ok(
-        resumes(alloc, model, a, (4, 35, 0), &[55, 55])?
-            && resumes(alloc, model, b, (-2, 45, 9), &[49, 49])?,
-    )
-}
-
-// Amounts to restore: the next block, the stock, the items due in the next period, the running cost and the costs.
-type Amounts = (u64, i64, u32, u64, &'static [u64]);
-
-fn refusal(alloc: Global, model: &Model, amounts: Amounts) -> Option<RestoreFault> {
-    let (number, stock, arriving, running, costs) = amounts;
-    let mut due = [0; 32];
-    due[0] = arriving;
-    State::restore(alloc, model, number, stock, &due, running, costs).err()
-}
-
-// The first row of a table that is not judged as it should be.
-fn first_other(
-    alloc: Global,
-    model: &Model,
-    table: &[Amounts],
-    want: Option<RestoreFault>,
-) -> Option<usize> {
-    for (i, amounts) in table.iter().enumerate() {
-        if refusal(alloc, model, *amounts) != want {
-            return Some(i);
-        }
-    }
-    None
-}
-
-static KEPT: [Amounts; 5] = [
-    (1, -40_000, 30_000, 800_000_000_000, &[]),
-    (1, 1_000_000, 0, 0, &[]),
-    (1, 999_990, 10, 0, &[]),
-    (3, 4, 0, 35, &[1_000_000_000_000]),
-    (4, 10, 0, 0, &[55, 55]),
-];
-
-static BROKEN: [Amounts; 12] = [
-    (5, 10, 0, 0, &[55, 55]),
-    (1, -40_001, 30_001, 0, &[]),
-    (1, 1_000_001, 0, 35, &[]),
-    (1, -40_000, 29_999, 0, &[]),
-    (1, 1_040_000, 0, 0, &[]),
-    (1, 999_990, 11, 0, &[]),
-    (1, 4, 0, 800_000_000_001, &[]),
-    (1, 4, 0, 35, &[55]),
-    (3, 4, 0, 35, &[1_000_000_000_001]),
-    (2, 9, 0, 0, &[55]),
-    (2, 10, 1, 0, &[55]),
-    (2, 10, 0, 1, &[55]),
-];
-
-// A model's periods, replications, initial stock, first demand and first lead time.
-fn sizes_of(model: &Model) -> [i64; 5] {
-    [
-        i64::from(model.periods()),
-        i64::from(model.replications()),
-        model.initial(),
-        i64::from(model.demand().pick(0)),
-        i64::from(model.lead().pick(0)),
-    ]
-}
-
-// Whether whole runs have their costs.
-fn both_run(alloc: Global, model: &Model) -> Result<bool, AllocError> {
-    let a = Levels { low: 5, high: 10 };
-    let b = Levels { low: 4, high: 10 };
-    two_costs(alloc, model, a, &[55, 55], b, &[49, 49])
-}
-
-// What a model of two replications of five periods shows: its parts, its blocks a replication and all its blocks, whether
-// its runs have their costs, whole, after a copy and restored, and the first rows that are not judged as they should be.
-#[derive(Clone, Copy)]
-struct TwiceFigures {
-    sizes: [i64; 5],
-    costs: Costs,
-    blocks: (u64, u64),
-    runs: bool,
-    copies: bool,
-    resumes: bool,
-    other_kept: Option<usize>,
-    other_broken: Option<usize>,
-}
-
-// All that a model of these sizes shows.
-fn shown_by(alloc: Global, model: &Model) -> Result<TwiceFigures, AllocError> {
-    Ok(TwiceFigures {
-        sizes: sizes_of(model),
-        costs: *model.costs(),
-        blocks: (model.blocks_per_replication(), model.total()),
-        runs: both_run(alloc, model)?,
-        copies: both_copy(alloc, model)?,
-        resumes: both_resume(alloc, model)?,
-        other_kept: first_other(alloc, model, &KEPT, None),
-        other_broken: first_other(alloc, model, &BROKEN, Some(RestoreFault::Range)),
-    })
-}
-
-// The same of two replications of five periods.
-fn shown_by_twice(alloc: Global) -> Result<TwiceFigures, AllocError> {
+fn both_resume(alloc: Global) -> Result<bool, AllocError> {
     let model = twice(alloc)?;
-    shown_by(alloc, &model)
-}
-
-#[test]
-fn model_parts(rt: HostRuntime) -> Result<(), Fail> {
-    let TwiceFigures { sizes, costs, .. } = shown_by_twice(rt.alloc())?;
-    let rates = (costs.setup, costs.unit, costs.holding, costs.backlog);
-    assert_eq!(rt; (sizes, rates), ([5, 2, 10, 3, 1], (7, 2, 1, 4)));
-    Ok(())
-}
-
-#[test]
-fn partial_blocks(rt: HostRuntime) -> Result<(), Fail> {
-    assert_eq!(rt; shown_by_twice(rt.alloc())?.blocks, (2, 4));
-    Ok(())
-}
-
-#[test]
-fn partial_blocks_run(rt: HostRuntime) -> Result<(), Fail> {
-    assert!(rt; shown_by_twice(rt.alloc())?.runs);
-    Ok(())
-}
-
-#[test]
-fn copied(rt: HostRuntime) -> Result<(), Fail> {
-    assert!(rt; shown_by_twice(rt.alloc())?.copies);
-    Ok(())
+    Ok(
+        resumes(alloc, &model, A, (4, 35, 0), &[55, 55])?
+            && resumes(alloc, &model, B, (-2, 45, 9), &[49, 49])?,
+    )
 }
 
 #[test]
 fn restored(rt: HostRuntime) -> Result<(), Fail> {
-    assert!(rt; shown_by_twice(rt.alloc())?.resumes);
-    Ok(())
-}
-
-#[test]
-fn ends_of_ranges(rt: HostRuntime) -> Result<(), Fail> {
-    assert_eq!(rt; shown_by_twice(rt.alloc())?.other_kept, None);
-    Ok(())
-}
-
-#[test]
-fn past_ranges(rt: HostRuntime) -> Result<(), Fail> {
-    assert_eq!(rt; shown_by_twice(rt.alloc())?.other_broken, None);
+    assert!(rt; both_resume(rt.alloc())?);
     Ok(())
 }
 
@@ -452,29 +287,5 @@ fn numbers_and_lines_of_faults(rt: HostRuntime) -> Result<(), Fail> {
         first_other_line(rt.alloc(), &FAULTS, RestoreFault::number)?,
         None
     );
-    Ok(())
-}
-
-// A scenario of one policy.
-fn scenario(alloc: Global) -> Result<Scenario, AllocError> {
-    let policies = one_policy(alloc, Levels { low: 5, high: 10 })?;
-    let model = twice(alloc)?;
-    Ok(scenario_with([1, 2, 3, 4], Slots::Two.count(), model, policies))
-}
-
-// Its key, its ring size, the total of its blocks and the number of its policies.
-fn parts(alloc: Global) -> Result<([u64; 4], u64, u64, usize), AllocError> {
-    let scenario = scenario(alloc)?;
-    Ok((
-        scenario.key(),
-        scenario.ring(),
-        scenario.model().total(),
-        scenario.policies().len(),
-    ))
-}
-
-#[test]
-fn scenario_parts(rt: HostRuntime) -> Result<(), Fail> {
-    assert_eq!(rt; parts(rt.alloc())?, ([1, 2, 3, 4], 2, 4, 1));
     Ok(())
 }

@@ -3,7 +3,6 @@
 
 mod ends;
 mod gates;
-mod large;
 mod refusals;
 mod runs;
 mod scenarios;

@@ -12,7 +12,6 @@ use std::alloc::Global;
 use std::sync::Wait;
 use std::test::Fail;
 use std::thread::Threads;
-use tests_text::fixtures::{FIRST_LEG, ONE_POLICY, ONE_POLICY_REPORT, TWO_REPLICATIONS};
 
 #[test]
 fn a_block_by_its_words(rt: HostRuntime) {
@@ -70,6 +69,36 @@ fn a_refused_thread_is_a_fault(rt: HostRuntime) {
     assert!(rt; ten_or_no_thread(&rt, rt.alloc()));
 }
 
+// A scenario of two replications of two blocks each, always with a demand of 3 and a lead time of 1.
+const TWO_REPLICATIONS: &str = "version = 1
+key = [\"0000000000000000\", \"0000000000000000\", \"0000000000000000\", \"0000000000000000\"]
+periods = 5
+replications = 2
+initial = 10
+ring = 2
+costs = { setup = 7, unit = 2, holding = 1, backlog = 4 }
+demand = { values = [3], weights = [1] }
+lead = { values = [1], weights = [1] }
+policy = [{ name = \"A\", s = 5, S = 10 }, { name = \"B\", s = 4, S = 10 }]
+";
+
+// Its checkpoint at block 1, in the newest version. A has ordered 6 in period 2, which came in period 3; its costs are
+// 7, 4, 20 and 4. B has ordered 9 in period 3, due in period 4; its costs are 7, 4, 1 and 33.
+const FIRST_LEG: &str = "checkpoint,2,1,5,2
+key,0000000000000000,0000000000000000,0000000000000000,0000000000000000
+costs,7,2,1,4
+sizes,10,1,1,2
+returns,0,-,-,-
+demand,3,1,-,-
+lead,1,1,-,-
+policy,A,5,10,-
+state,4,35,0,0
+policy,B,4,10,-
+state,-2,45,1,0
+due,4,9,-,-
+end,-,-,-,-
+";
+
 // Whether a run of so many blocks stops at this block with this text.
 fn stops_at<R: Threads + Wait + Sync>(
     rt: &R,
@@ -91,6 +120,24 @@ fn stops_at<R: Threads + Wait + Sync>(
 fn a_run_stops_after_a_block(rt: HostRuntime) {
     assert!(rt; stops_at(&rt, rt.alloc(), 1, 1, FIRST_LEG));
 }
+
+// A scenario of one policy: four periods, demands of 1 to 4, lead times of 1.
+const ONE_POLICY: &str = "version = 1
+key = [\"0000000000000000\", \"0000000000000000\", \"0000000000000000\", \"0000000000000000\"]
+periods = 4
+replications = 1
+initial = 60
+ring = 2
+costs = { setup = 32, unit = 3, holding = 1, backlog = 5 }
+demand = { values = [1, 2, 3, 4], weights = [1, 2, 2, 1] }
+lead = { values = [1], weights = [1] }
+policy = [{ name = \"A\", s = 20, S = 40 }]
+";
+
+// Its report.
+const ONE_POLICY_REPORT: &str = "policy,s,S,total,per_period,diff_total,diff_mean,diff_var,cov
+A,20,40,222,111/2,0,0/1,-,-
+";
 
 #[test]
 fn a_text_becomes_a_report(rt: HostRuntime) -> Result<(), Fail> {

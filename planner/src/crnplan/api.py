@@ -179,7 +179,7 @@ def plan(
     known = joined(words, reading=reading, settings=settings)
     tables = {"masters": masters, "orders": orders, "out_of_stock": out_of_stock}
     rules = rules_of(sales, {**tables, "laws": laws}, known)
-    ways = taken(Settings, known)
+    ways = taken(Settings, {"fill": rules.fill, "service": rules.service} | known)
     earlier = None if after is None else Path(after)
     check_earlier(earlier, None if out is None else Path(out), ways)
     room = None

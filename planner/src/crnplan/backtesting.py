@@ -127,7 +127,6 @@ def backtest(
     record: int = 52,
     every: int = 13,
     window: int = 52,
-    least_gain: float | None = None,
     reading: Reading | None = None,
     settings: Settings | None = None,
     out_of_stock: Table | None = None,
@@ -143,13 +142,12 @@ def backtest(
     Each item is planned from its first `record` periods, as `plan` does it, and the plan is run on the periods that came. No
     crnsim is needed. These methods are run:
 
-    - the plan as it was (kept), and refitted after each `every` periods on the last `window`; with a `least_gain` also as
-      `plan` does it after an earlier plan
+    - the plan as it was (kept), and refitted after each `every` periods on the last `window`
     - today's policy
     - the plan that aims as `correct` makes it from the records alone
     - that by one price of what is not met for each class of 10 items, as `together`. A class meets together what its items
       want in the mean by value. Items without a price are planned by themselves. Its gain is that of items that weigh alike
-    - that by months, if the records show a season (a record of two years or more)
+    - that by a season, if the records show one (a record of two years or more)
     - refitted plans at the level of the last periods, if classes follow it by their records, as `follow`
     - a rule of thumb: exponential smoothing with a normal safety stock
 
@@ -171,8 +169,6 @@ def backtest(
         The periods from one refitted plan to the next.
     window : int, at least 1, default 52
         The last periods on which refitted plans are fitted.
-    least_gain : float, above 0 and below 1, optional
-        A share of the cost: refitted levels stay if a change gains less; by default as in `settings`.
     reading : Reading, optional
         Words of reading that several calls share. A word is said there or by itself.
     settings : Settings, optional
@@ -214,7 +210,7 @@ def backtest(
     tables = {"masters": masters, "orders": orders, "out_of_stock": out_of_stock}
     rules = rules_of(sales, {**tables, "period": period}, known)
     ways = taken(Settings, known)
-    walk = Walk(record, every, window, least_gain or ways.least_gain)
+    walk = Walk(record, every, window)
     means = Means(jobs, cluster, shown=progress)
     with tempfile.TemporaryDirectory(prefix="crnplan-") as room, own_folder(
         Path(out or room), CATALOGUE

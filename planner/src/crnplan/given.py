@@ -29,8 +29,9 @@ def joined(words: Mapping[str, Any], **values: Vocabulary | None) -> dict[str, A
     known = dict(words)
     for name, value in values.items():
         own = value.given if value else {}
+        # What is wanted is a word of both values, read from one place.
         for word in own:
-            if word in known:
+            if word in words:
                 raise Refused(
                     f"{argument(word)} is said by itself and in {argument(name)}",
                     "leave one out",

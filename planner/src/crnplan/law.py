@@ -10,7 +10,6 @@ from operator import ge, mul
 from typing import TYPE_CHECKING, Any, cast
 
 from .arguments import judged
-from .drawing.pictures import Picture, law_picture
 from .errors import Refused
 from .formats import MOST_DEMAND, MOST_WEIGHT
 from .money import Number, exact, whole, whole_numbers
@@ -156,10 +155,6 @@ class Law:
         columns = {"value": self.values, "weight": self.weights, "chance": chances}
         return pd.DataFrame(columns)
 
-    def plot(self) -> Picture:
-        """Draws the chance of each value."""
-        return law_picture(self.values, self.weights, float(self.mean))
-
     @classmethod
     def of_parts(cls, parts: Mapping[int, Fraction]) -> Law:
         """Makes a law whose chances are as some exact numbers, rounded as `of_chances` says.
@@ -251,28 +246,6 @@ class Law:
                 "give chances that fall from 1, one for each value",
             )
         return _rounded(np.asarray(values), tails)
-
-    @judged("law")
-    def times(self, factor: float) -> Law:
-        """Returns the law of as many times each value.
-
-        What is no whole number is shared by the two next to it, so that means are so many times as large too, up to the rounding
-        of `of_chances`. What is above the greatest value of a scenario counts there.
-
-        Parameters
-        ----------
-        factor : float
-            At least 0. Raises Refused for others.
-        """
-        import numpy as np
-
-        exact = np.minimum(np.array(self.values) * factor, MOST_DEMAND)
-        below = exact.astype(int)
-        above = (exact - below) * self.weights
-        chances = np.zeros(below[-1] + 2)
-        np.add.at(chances, below, self.weights - above)
-        np.add.at(chances, below + 1, above)
-        return Law.of_chances(chances / self.size)
 
     @property
     def tree(self) -> dict[str, list[int]]:

@@ -35,7 +35,6 @@ from .show.item_page import ItemWords, item_page, item_summary, policies_of
 from .plan.catalogue import planned_folder
 from .plan.totals import Totals
 from .plan.survey import Survey
-from .plan.what_ifs import Moves
 from .read.catalogue_reading import READ
 from .read.frames import name_of
 from .read.opening import Table
@@ -109,11 +108,6 @@ class PlannedItem(Result):
     def doubt(self) -> ItemFigures:
         """Returns what each policy costs and meets under the laws that the item's history allows."""
         return ItemFigures(self.words.doubt, self.words.promise)
-
-    def moves(self) -> Moves:
-        """Returns how the best policy moves if a cost, the demand or the lead time differs, and what the chosen one
-        costs then."""
-        return self.words.depth.moves
 
     def plot(self) -> Picture:
         """Draws the stock of today's and the chosen policy in one run."""
@@ -236,7 +230,7 @@ class Plan(Result):
 
     @cached_property
     def levels(self) -> pd.DataFrame:
-        """Returns the levels of items that are planned by their season, a row for each month of the coming year: the first
+        """Returns the levels of items that are planned by their season, a row for each part of the coming year: the first
         and the last day, s and S. It has no rows if no season is planned.
         """
         with planned_folder(self._folder) as folder:

@@ -3,6 +3,7 @@ from __future__ import annotations
 
 from collections.abc import Iterable, Mapping
 from dataclasses import dataclass
+from fractions import Fraction
 from typing import Any
 
 from . import formats
@@ -15,6 +16,26 @@ Levels = tuple[int, int]  # s and S of a policy
 Policies = (
     Iterable[object] | Mapping[str, tuple[int, int]] | Result
 )  # what stands for some
+
+
+@dataclass(frozen=True)
+class Lot:
+    """What can be ordered: at least `least` items, in whole packs of `pack`."""
+
+    pack: int = 1
+    least: int = 0
+
+    def order(self, wanted: int | Fraction) -> int:
+        """Returns what is ordered where so many items are wanted: what can be, and is enough."""
+        return int(-(-max(wanted, self.least) // self.pack) * self.pack)
+
+    def most_above(self, gap: int) -> int:
+        """Returns by how much an order exceeds at most what is wanted, if that is more than a gap."""
+        return max(self.order(gap + 1) - gap - 1, self.pack - 1)
+
+    def counted_in(self, step: int) -> Lot:
+        """Returns the same in steps of so many items: packs rounded, the least up."""
+        return Lot(max(1, round(self.pack / step)), -(-self.least // step))
 
 
 @dataclass(frozen=True)

@@ -25,7 +25,7 @@ from .toml.scenarios import (
 from .errors import Refused
 from .law import Chances, Law, law_of
 from .money import Amount, Costs as Costs, scaled_costs, whole
-from .policies import Policy, levels_of
+from .policies import Lot, Policy, levels_of
 from .table import Json
 
 NO_POLICY = range(1)  # the number of policies of a scenario that is made without one
@@ -54,6 +54,8 @@ class ScenarioData:
     scale: Fraction = field(default=Fraction(1), compare=False)
     # One review in so many periods, for theory alone: the program reviews in each period.
     review: int = 1
+    # What can be ordered, for theory alone: the program orders up to S.
+    lot: Lot = Lot()
     # Whether the stock at the start is known. If not, it is halfway between s and S of the first policy that is run.
     has_initial: bool = field(default=True, compare=False, repr=False)
 

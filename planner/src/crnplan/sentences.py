@@ -6,6 +6,7 @@ again.
 """
 from __future__ import annotations
 
+import datetime
 import re
 import tomllib
 from collections.abc import Callable, Mapping
@@ -101,9 +102,18 @@ def _but_promotions(facts: Facts) -> str:
     return f", but for {counted(promoted, 'promoted period')}"
 
 
-def _month(name: str) -> Derive:
-    """Returns the function that gives the name of the month at a fact."""
-    return lambda facts: MONTHS[facts[f"month_{name}"] - 1]
+def part_of_year(part: int, days: int) -> str:
+    """Returns the words for a part of the year, from 0 on: its first day if parts have so many days, or its month if they
+    have 0."""
+    if not days:
+        return MONTHS[part]
+    first = datetime.date(2001, 1, 1) + datetime.timedelta(part * days)
+    return f"the {days} days from {first.day} {MONTHS[first.month - 1]}"
+
+
+def _in_year(name: str) -> Derive:
+    """Returns the function that gives the words for the part of the year at a fact."""
+    return lambda facts: part_of_year(facts[f"part_{name}"], facts["days"])
 
 
 def _how_known(facts: Facts) -> str:
@@ -312,8 +322,8 @@ DERIVED: dict[str, Derive] = {
     "whose record": lambda facts: "its own" if facts["is_own"] else "its class",
     "sums of paths": _sums_of_paths,
     "but promotions": _but_promotions,
-    "month of most": _month("most"),
-    "month of least": _month("least"),
+    "part of most": _in_year("most"),
+    "part of least": _in_year("least"),
     "periods with demand": lambda facts: counted(facts["demands"], "period"),
     "reason of no interval": _no_interval,
     "meets": _meets,

@@ -27,7 +27,7 @@ from crnplan.plan.how import NONE, Settings
 from crnplan.read.catalogue_reading import CATALOGUE, READ
 from crnplan.read.item import Item
 from crnplan.store.stored import Store
-from planner.tests.conftest import Command, rows_of
+from planner.tests.conftest import Command, rows_of, shared
 from planner.tests.show.page_reader import Page
 from planner.tests.plan.items import START, several, tables_of
 
@@ -61,9 +61,11 @@ def items() -> Mapping[str, Item]:
 @pytest.fixture(scope="module")
 def made(items: Mapping[str, Item], tmp_path_factory: pytest.TempPathFactory) -> Path:
     """Returns a folder with the two tables of a small catalogue and its test in `out`, which nobody changes."""
-    room = tmp_path_factory.mktemp("past")
-    package.backtest(*write(room, items), out=room / "out", **WALK)
-    return room
+
+    def make(room: Path) -> None:
+        package.backtest(*write(room, items), out=room / "out", **WALK)
+
+    return shared(tmp_path_factory, "past", make)
 
 
 def read(folder: Path) -> dict[str, bytes]:

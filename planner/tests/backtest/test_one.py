@@ -100,37 +100,6 @@ def test_refits_are_plans_of_their_windows(program: Path) -> None:
     )
 
 
-@pytest.mark.parametrize("least", [0.02, 0.3])
-def test_damped_refits(least: float, program: Path) -> None:
-    """A refit changes levels if and only if that gains this share of their cost, or they miss a wanted fill rate: by
-    plans of each window, and costs and fill rates of a Markov chain."""
-    settings, walk, seen = (
-        alone(fit="empirical"),
-        dataclasses.replace(WALK, least_gain=least),
-        set[bool](),
-    )
-    for item in itertools.islice(several(8), 0, 8, 2):
-        used = list[tuple[int, int]]()
-        for start, origin, end in walk.stretches(len(item.counts)):
-            part = item.part(start, origin)
-            best = plan_one(question_of(part, settings, OWN), str(program)).chosen
-            cost, fill = costed(part, settings, used[-1]) if used else (math.inf, 0.0)
-            moves = cost - best.cost >= least * cost or fill < (item.fill or 0)
-            seen |= {moves} if used and used[-1] != best.levels else set()
-            used += [best.levels if moves or not used else used[-1]] * (end - origin)
-        test = backtest_one(item, settings, OWN, walk)
-        assert test.damped
-        assert test.damped.changes == sum(
-            old != new for old, new in itertools.pairwise(used)
-        )
-        promises = test.damped.promised_cost or 0, test.damped.promised_fill or 0
-        assert test.damped == Walked(item, settings, OWN, walk).happened.traced(
-            MethodRun([used[0]] * 40 + used, [promises])
-        )
-        assert test.refitted == backtest_one(item, settings, OWN, WALK).refitted
-    assert seen == {False, True}
-
-
 def test_no_later_period_is_seen() -> None:
     """Other later periods change nothing of what was planned, nor the first period after the record."""
     item = item_of(4)

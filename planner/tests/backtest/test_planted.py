@@ -16,8 +16,9 @@ import crnplan as crn
 from crnplan.api import take_tables
 from crnplan.demand.index import Index
 from crnplan.demand.learning import Prior
-from crnplan.demand.seasons import months_of
+from crnplan.demand.seasons import parts_of
 from crnplan.spelling import worded
+from crnplan.plan import together
 from crnplan.plan.backtest.catalogue import TESTS, methods_of
 from crnplan.plan.backtest.lessons import Learning, Records, wanted_shares
 from crnplan.plan.backtest.methods import (
@@ -34,6 +35,7 @@ from crnplan.plan.choice import choice_of
 from crnplan.plan.how import NONE, Settings
 from crnplan.plan.prices import REST
 from crnplan.plan.question import question_of
+from crnplan.plan.prices import Price, Prices
 from crnplan.plan.seasons import Seasons
 from crnplan.read.catalogue_reading import CATALOGUE, READ
 from crnplan.read.item import Item
@@ -120,12 +122,13 @@ def test_what_must_gain(kind: str, tmp_path: Path) -> None:
 
 
 # An index of the first half of the year and of the second one, whose mean is 1.
-HALVES = (1.6,) * 6 + (0.4,) * 6
+HALVES = (1.6,) * 13 + (0.4,) * 13
 SEASONS = Seasons("week", {"": Index(HALVES, 0.001, 1.0, 2)})
+PRICES = Prices({"": Price(0.9, 7.0, 0.9, 0.9, 1)})
 
 
-def test_levels_are_those_of_the_months_of_the_calendar() -> None:
-    """Each later week has the levels of the month of its Thursday, by the calendar: also after weeks that are not known,
+def test_levels_are_those_of_the_calendar() -> None:
+    """Each later week has the levels of the part of the year of its Thursday, by the calendar: also after weeks that are not known,
     and in a second year as 52 weeks before."""
     counts = np.random.default_rng(5).poisson(6, 230).tolist()
     first, unknown = 2817, (7, 108, 109, 110, 111, 112, 160)
@@ -140,14 +143,15 @@ def test_levels_are_those_of_the_months_of_the_calendar() -> None:
     question = question_of(item.part(0, known[104]), settings, OWN)
     assert run and question.season and len(run.levels) == len(known)
     days = {
-        month: choice_of(question.month(month)).levels for month in question.season.year
+        month: choice_of(question.during(month)).levels
+        for month in question.season.year
     }
     for place, levels in zip(known[104:], run.levels[104:], strict=True):
         week = first + place
         while week >= first + known[104] + 52:
             week -= 52
         (month,) = [one for one in days if one.first <= week < one.end]
-        assert months_of("week", week, 1) == months_of("week", month.first, 1)
+        assert parts_of("week", week, 1) == parts_of("week", month.first, 1)
         assert levels == days[month]
     assert len({*run.levels[104:]}) > 2 and len(run.aims) == 5
     gaps = dataclasses.replace(item, unknown=(), counts=item.known.counts)
@@ -265,7 +269,13 @@ def test_shares_by_hand(tmp_path: Path) -> None:
     assert found == [{"": 0.925, "a": round((0.9 + 3 * 0.95) / 4, 4)}, {}]
 
 
-def test_ways_that_records_do_not_teach(tmp_path: Path) -> None:
+def refused(*_: Any) -> None:
+    raise crn.Refused("it has no policy")
+
+
+def test_ways_that_records_do_not_teach(
+    tmp_path: Path, monkeypatch: pytest.MonkeyPatch
+) -> None:
     """It is said why no price is tested, and how long a record has to be for the seasons of the plan. With none wanted,
     and in a plan without any, nothing is."""
     sales, masters = tables_of(small(place, SMALL[1], 1) for place in range(21))
@@ -273,12 +283,10 @@ def test_ways_that_records_do_not_teach(tmp_path: Path) -> None:
     own = Settings(fit="empirical", borrow=NONE, every="week")
     words = Reading(every="week")
     said = list[Way | Remark]()
-    for priced, changed in (
-        (9, {}),
-        (10, {}),
-        (21, {"s_min": 1_000_000, "order_min": 9}),
-    ):
+    for priced in (9, 10, 21):
         masters["price"] = [1] * priced + [None] * (21 - priced)
+        if priced == 21:
+            monkeypatch.setattr(together, "offer_of", refused)
         with own_folder(tmp_path / str(priced), CATALOGUE) as folder:
             take_tables(folder, sales, masters, None, None, words, 1)
             with contextlib.closing(
@@ -291,7 +299,7 @@ def test_ways_that_records_do_not_teach(tmp_path: Path) -> None:
                     on = dataclasses.replace(own, **words)
                     return Learning(folder, tests, records, on, OWN, Means(1))
 
-                said.append(learning(**changed).together())
+                said.append(learning().together())
                 seasonal = dataclasses.replace(own, seasons=SEASONS)
                 short = learning().seasonal(seasonal)
                 assert learning().seasonal(own) is None
@@ -311,5 +319,5 @@ def test_methods_of_a_plan() -> None:
     own = Settings(fit="empirical", borrow=NONE, every="week")
     assert methods_of(own) == []
     assert methods_of(
-        dataclasses.replace(own, correct=True, together={"": 0.9}, seasons=SEASONS)
+        dataclasses.replace(own, correct=True, prices=PRICES, seasons=SEASONS)
     ) == ["corrected", "together", "seasonal"]

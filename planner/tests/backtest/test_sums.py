@@ -3,11 +3,13 @@ from __future__ import annotations
 
 import math
 from collections.abc import Sequence
+from types import SimpleNamespace
 from typing import Any
 
 import numpy as np
 import pytest
 
+from crnplan.plan.backtest.catalogue import remarks_of_stated
 from crnplan.plan.backtest.estimates import Estimate, error_of
 from crnplan.plan.backtest.one import Backtest
 from crnplan.plan.backtest.outcomes import Traced
@@ -26,6 +28,7 @@ from crnplan.plan.backtest.sums import (
     Sums,
     sums_of,
 )
+from crnplan.remarks import Remark
 
 PERIODS, DEMAND = 52, 10
 
@@ -69,7 +72,6 @@ def made(
         "today": outcome([0] * len(unmet), 7.5),
         "kept": kept,
         "refitted": kept,
-        "damped": None,
         "corrected": None,
         "together": None,
         "seasonal": None,
@@ -114,6 +116,25 @@ def test_figures_by_hand(asked: tuple[int, int]) -> None:
     assert sums.beside["today"].value == pytest.approx(0.5)
     assert sums.beside["refitted"].value == 0
     assert (sums.items, sums.broken, sums.above) == (12, 12, 12)
+
+
+def test_items_with_a_stated_law_are_counted() -> None:
+    """Those count that were tested, and nothing is said without one."""
+    stated, other = SimpleNamespace(law="its law"), SimpleNamespace(law=None)
+    tested, left_out = made([0], [0], 0), Remark("short record", {})
+    items: Any = [(stated, tested), (other, tested), (stated, left_out)]
+    assert [it.facts for it in remarks_of_stated(items)] == [{"items": 1}]
+    assert [*remarks_of_stated(items[1:])] == []
+
+
+def test_ways_whose_levels_change() -> None:
+    """Says how often levels change of each way that plans anew, and of none that keeps its plan."""
+    unmet, moved = [1] * PERIODS, outcome([1] * PERIODS, changes=3)
+    anew = {"refitted", "seasonal", "followed", "smoothed"}
+    ways = dict.fromkeys([*anew, "corrected", "together"], moved)
+    tests = [made(unmet, unmet, place, **ways) for place in range(2)]
+    changes = dict.fromkeys(anew, 3 / PERIODS)
+    assert Sums.of("", tests).changes == pytest.approx(changes)
 
 
 def test_sums_of_todays_policies_are_of_the_items_that_have_one() -> None:

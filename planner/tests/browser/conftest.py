@@ -11,14 +11,12 @@ from typing import Any
 import pandas as pd
 import pytest
 
-from crnplan import Plan, Policy, plan
-from crnplan.crnsim.periods import Period
+from crnplan import Plan, plan
 from crnplan.curve.parts import Point
 from crnplan.show.catalogue_page import ROWS_A_GROUP, file_name, file_of, report
 from crnplan.curve.pictures import exchange_plot
 from crnplan.drawing.rendering import Money
 from crnplan.drawing.pictures import Picture, savings_picture
-from crnplan.crnsim.pictures import trajectories_picture
 from planner.tests.browser.browser import Browser
 from planner.tests.catalogue.conftest import SETTINGS
 from planner.tests.conftest import shared
@@ -135,12 +133,6 @@ def pictures(folder: Path) -> None:
         drawn.append(Picture.of([exchange_plot(curve, Money("EUR", 2))]))
     savings = {"AB-123456/7890 X": 9e9, "PUMP": -8e9, MARKUP: 1.0, ARABIC: 0.0}
     drawn.append(savings_picture(savings, "EUR a week"))
-    policies = [Policy("today", 5, 99), Policy("it", 99_000, 100_000)]
-    runs = [
-        [Period(0, 9, 99, 99), Period(9, 3, -9, 5)],
-        [Period(10**5, 9, 0, 10**5)],
-    ]
-    drawn.append(trajectories_picture(policies, runs, 20))
     texts = "".join(picture.svg for picture in drawn)
     head = '<!doctype html><html lang="en"><title>Pictures</title>'
     head += "<style>svg { overflow: visible; }</style>"  # shows what would be cut off

@@ -50,7 +50,7 @@ def test_page_has_no_fault(
 def test_pictures_have_no_fault(browser: Browser, pages: Pages) -> None:
     """No text of a picture meets another one or ends beyond an edge, whatever the amounts."""
     browser.open(pages("pictures"), Form(776, height=TALL))
-    assert len(browser.driver.find_elements(By.CSS_SELECTOR, "body > svg")) == 5
+    assert len(browser.driver.find_elements(By.CSS_SELECTOR, "body > svg")) == 4
     rules = "console", "requests", "names", "overflow", "overlaps", "contrast"
     assert faults_of(browser, *rules) == []
 

@@ -243,6 +243,17 @@ def test_controls_of_today(tmp_path: Path) -> None:
     assert controls.owed[controls.file == "stock.csv"].tolist() == [3, 1, 0, 2]
 
 
+def test_fractional_factors(tmp_path: Path) -> None:
+    """A row counts as many items as its factor says, also if that is a part of one."""
+    rows = "item,stock,qty per unit\nA,12,0.5\nB,8,0.25\nA,3,12\n"
+    (tmp_path / "stock.csv").write_text(rows, "utf-8")
+    tables = {"stock": tmp_path / "stock.csv"}
+    read = read_holdings(tables, Reading(), PRICES)
+    value = (12 * Fraction(1, 2) + 3 * 12) * PRICES["A"] + 2 * PRICES["B"]
+    (control,) = read.controls.values()
+    assert (control.amounts, control.value) == ({"stock": 23}, value)
+
+
 @pytest.mark.parametrize(
     "paths, names",
     [

@@ -26,7 +26,7 @@ from crnplan.plan.correction import cost_trial_of
 from crnplan.plan.how import NONE, Settings
 from crnplan.plan.question import question_of
 from crnplan.read.item import Item
-from planner.tests.conftest import Command
+from planner.tests.conftest import Command, shared
 from planner.tests.planned_tables import whole_frame, whole_rows
 from planner.tests.show.page_reader import Page
 from planner.tests.plan.items import SHORT
@@ -62,10 +62,12 @@ def write(folder: Path, items: int = ITEMS) -> list[Path]:
 @pytest.fixture(scope="module")
 def made(tmp_path_factory: pytest.TempPathFactory, program: Path) -> Path:
     """Returns a folder with the two tables and corrected plans in `plan`, which nobody changes."""
-    room = tmp_path_factory.mktemp("correction")
     words: Any = {**SETTINGS, "correct": True, "program": program}
-    crn.plan(*write(room, COUNT), out=room / "plan", **words)
-    return room
+
+    def make(room: Path) -> None:
+        crn.plan(*write(room, COUNT), out=room / "plan", **words)
+
+    return shared(tmp_path_factory, "correction", make)
 
 
 @pytest.fixture

@@ -14,7 +14,7 @@ from crnplan.demand.level import BlockSums, factor_of, weight_of
 from crnplan.plan.answer import Answer
 from crnplan.plan.catalogue import planned_folder
 from crnplan.plan.learned import FOLLOWING
-from planner.tests.conftest import Command
+from planner.tests.conftest import Command, shared
 from planner.tests.plan.items import SHORT, item_of, tables_of
 from planner.tests.planned_tables import whole_table
 
@@ -38,15 +38,17 @@ COUNTS = [counts_of(place) for place in range(ITEMS)]
 @pytest.fixture(scope="module")
 def room(tmp_path_factory: pytest.TempPathFactory, program: Path) -> Path:
     """Returns a folder with the tables, whose class b moves, their plan in `plan`, and that at the mean in `mean`."""
-    folder = tmp_path_factory.mktemp("following")
-    items = [item_of(place, counts=counts) for place, counts in enumerate(COUNTS)]
-    for name, table in zip(("demand", "items"), tables_of(items)):
-        table.to_csv(folder / f"{name}.csv", index=False)
-    tables = folder / "demand.csv", folder / "items.csv"
-    for name, follow in (("plan", "auto"), ("mean", "none")):
-        words = {**WORDS, "program": program, "follow": follow}
-        crn.plan(*tables, out=folder / name, **words)
-    return folder
+
+    def make(folder: Path) -> None:
+        items = [item_of(place, counts=counts) for place, counts in enumerate(COUNTS)]
+        for name, table in zip(("demand", "items"), tables_of(items)):
+            table.to_csv(folder / f"{name}.csv", index=False)
+        tables = folder / "demand.csv", folder / "items.csv"
+        for name, follow in (("plan", "auto"), ("mean", "none")):
+            words = {**WORDS, "program": program, "follow": follow}
+            crn.plan(*tables, out=folder / name, **words)
+
+    return shared(tmp_path_factory, "following", make)
 
 
 def test_plans_at_the_level(room: Path) -> None:

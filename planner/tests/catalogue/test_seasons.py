@@ -1,4 +1,4 @@
-"""Tests catalogues with a season: what is learned and kept, levels by month, orders of a day, and plans without it."""
+"""Tests catalogues with a season: what is learned and kept, levels by part of the year, orders of a day, and plans without it."""
 from __future__ import annotations
 
 import datetime
@@ -15,7 +15,7 @@ import crnplan as crn
 from crnplan.plan.catalogue import planned_folder
 from crnplan.plan.learned import PRIOR_SEASONS, SEASONS
 from crnplan.show.verdicts import VERDICTS
-from planner.tests.conftest import Command
+from planner.tests.conftest import Command, shared
 from planner.tests.plan.items import SHORT
 from planner.tests.planned_tables import whole_frame, whole_rows, whole_table
 from planner.tests.show.page_reader import Page
@@ -52,15 +52,17 @@ def write(folder: Path) -> list[Path]:
 @pytest.fixture(scope="module")
 def room(tmp_path_factory: pytest.TempPathFactory, program: Path) -> Path:
     """Returns a folder with the tables, their plan in `plan`, and that without seasons in `flat`. Nobody changes it."""
-    folder = tmp_path_factory.mktemp("seasons")
-    tables = write(folder)
-    for name, season in (("plan", "auto"), ("flat", "none")):
-        words = {**WORDS, "program": program, "season": season}
-        crn.plan(*tables, out=folder / name, **words)
-    return folder
+
+    def make(folder: Path) -> None:
+        tables = write(folder)
+        for name, season in (("plan", "auto"), ("flat", "none")):
+            words = {**WORDS, "program": program, "season": season}
+            crn.plan(*tables, out=folder / name, **words)
+
+    return shared(tmp_path_factory, "seasons", make)
 
 
-def test_levels_by_month(room: Path) -> None:
+def test_levels_by_part_of_the_year(room: Path) -> None:
     """Items of the class with a season have levels for each day of a year, of which those of now are their decision; the
     others have the same plan as without seasons."""
     plan, flat = whole_table(room / "plan"), whole_table(room / "flat")
@@ -90,7 +92,7 @@ def test_what_is_said(room: Path) -> None:
     warm = plan.index.str.startswith("warm")
     assert plan.loc[warm, "codes"].str.contains("season planned").all()
     assert "by 2 years of its class: 1." in plan.loc["warm-21", "warnings"]
-    assert "times the mean in July" in plan.loc["warm-21", "warnings"]
+    assert "times the mean in the 14 days from " in plan.loc["warm-21", "warnings"]
     assert flat.loc[warm, "warnings"].str.contains("demand has a season").all()
     assert not plan["warnings"].str.contains("demand has a season").any()
     assert not plan.loc[~warm, "codes"].str.contains("season planned").any()
@@ -206,7 +208,7 @@ def test_levels_of_a_planner(room: Path, tmp_path: Path, program: Path) -> None:
 
 
 def test_orders_of_a_day(room: Path) -> None:
-    """An item is ordered by the levels of the month of the day."""
+    """An item is ordered by the levels of the part of the year of the day."""
     levels = pd.read_csv(room / "plan/levels.csv", parse_dates=["from", "to"])
     for day in ("2024-02-13", "2024-07-10", "2025-07-10"):
         orders = crn.open_plan(room / "plan").orders_today(date=day)
@@ -220,7 +222,7 @@ def test_orders_of_a_day(room: Path) -> None:
 
 
 def test_after_an_earlier_plan(room: Path, tmp_path: Path, program: Path) -> None:
-    """Levels of each month stay if others gain little, and what the earlier plan came to is by those of its months."""
+    """Levels of each part of the year stay if others gain little, and what the earlier plan came to is by its own."""
     masters = pd.read_csv(room / "items.csv").drop(columns="fill").assign(backlog=9)
     tables, words = [room / "demand.csv", masters], {"program": program}
     until: dict[str, Any] = {**WORDS, **words, "end": "2023-12-31"}
@@ -231,16 +233,18 @@ def test_after_an_earlier_plan(room: Path, tmp_path: Path, program: Path) -> Non
     before = crn.open_plan(tmp_path / "before").levels.set_index(["item", "from"])
     changes = plan.changes.set_index("item")
     warm = [name for name in changes.index if "warm" in name]
-    assert {*changes.loc[warm, "change"]} <= {"damped", "same"}
+    kinds = changes.loc[warm, "change"].value_counts()
+    assert {*kinds.index} <= {"damped", "same"} and kinds["damped"] > 2
     stays = plan.levels.set_index(["item", "from"])
     both = stays.join(before, rsuffix="_before", how="inner")
     assert len(both) > 50 and (both["S"] == both["S_before"]).mean() > 0.9
     with planned_folder(plan.path) as planned:
         for change in planned.changes():
             if change.name in warm:
-                assert change.since and change.before and change.undamped
-                assert change.gain is not None and 0 <= change.gain
-                assert change.gain < 0.9 * change.before.cost
+                assert change.since and change.before
+            if change.name in warm and change.kind == "damped":
+                assert change.undamped and change.gain is not None
+                assert 0 <= change.gain < 0.9 * change.before.cost
 
 
 def test_curve(room: Path, tmp_path: Path, program: Path) -> None:
@@ -257,7 +261,7 @@ def test_curve(room: Path, tmp_path: Path, program: Path) -> None:
 
 def test_page_of_an_item(room: Path, tmp_path: Path, program: Path) -> None:
     """The page of an item has its demand as it was, the verdict, costs and service of the year that the tables have, and
-    other policies as of the first month."""
+    other policies as of the first part of it."""
     folder = Path(shutil.copytree(room / "plan", tmp_path / "plan"))
     item = crn.open_plan(folder, program=program).item("warm-21")
     counts = pd.read_csv(room / "demand.csv").query("item == 'warm-21'")["quantity"]
@@ -275,9 +279,15 @@ def test_page_of_an_item(room: Path, tmp_path: Path, program: Path) -> None:
         assert both[name] == [row[f"{column}_today"], row[f"{column}_chosen"]]
     assert both["saving a week"][1] == row["saving"]
     year = "In the mean of the coming year the chosen policy costs"
-    assert "In February below" in page and f"{year} {row['saving']} less" in page
+    assert (
+        "In the 14 days from 12 February below" in page
+        and f"{year} {row['saving']} less" in page
+    )
     assert VERDICTS[row["verdict"]].said.format("54, 162") in item.words.headline
-    assert "All policies if February lasted" in table and "lasted" in item.text
+    assert (
+        "All policies if the 14 days from 12 February lasted" in table
+        and "lasted" in item.text
+    )
     months = crn.open_plan(folder).levels.query("item == 'warm-21'")
     stated = months[["from", "to", "s", "S"]].astype(str).to_numpy().tolist()
     assert table["Levels of the coming year"][1:] == stated

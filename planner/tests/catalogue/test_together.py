@@ -14,6 +14,7 @@ import pytest
 
 import crnplan as crn
 from crnplan.demand.learning import Prior
+from crnplan.plan import together as prices_of_groups
 from crnplan.plan.answer import Answer, Share
 from crnplan.plan.catalogue import planned_folder
 from crnplan.plan.prices import REST, Price
@@ -98,7 +99,6 @@ def test_wanted_share_is_met(together: crn.Plan, alone: pd.DataFrame) -> None:
     pd.testing.assert_frame_equal(own.loc[names], alone.loc[names])
     assert own.fill_wanted.isna().sum() == COUNT
     assert own.fill_chosen.min() < WANTED < own.fill_chosen.max()
-    assert price.alone < price.promised
 
 
 def test_no_price_below_meets_the_share(together: crn.Plan) -> None:
@@ -149,6 +149,24 @@ def test_floor(program: Path, together: crn.Plan) -> None:
     assert said[5] == f"{rows[own].fill_chosen.max():.2%}"
 
 
+def test_what_masters_do_not_say(program: Path, alone: pd.DataFrame) -> None:
+    """A share that is wanted of all is met together, with a floor, by items whose rows say none; by each alone if that is
+    said, or if none has a price."""
+    sales, masters = made()
+    masters = masters[:-BACKLOG]
+    masters.loc[masters["class"] == "b", "fill"] = None
+    words = {**SETTINGS, "program": program}
+    plan = crn.plan(crn.read_catalogue(sales, masters, fill=0.95), **words)
+    own, levels = whole_frame(plan), alone.S_chosen[:-BACKLOG].to_numpy()
+    together = own["class"] == "b"
+    assert (own.fill_together.notna() == together).all()
+    assert 0.95 <= met(plan, "b") < 0.97 and own.fill_chosen.min() >= 0.85
+    assert ((own.S_chosen == levels) | together).all()
+    for items, alike in ((masters, True), (masters.assign(price=None), False)):
+        each = whole_frame(crn.plan(sales, items, fill=0.95, alike=alike, **words))
+        assert (each.S_chosen == levels).all()
+
+
 def test_items_without_a_price(program: Path, alone: pd.DataFrame) -> None:
     """They are planned by their own fill rates, and that is said of each and of all."""
     plan = planned(program, 3, together=WANTED)
@@ -181,6 +199,15 @@ def test_what_is_refused(name: str, program: Path) -> None:
     with pytest.raises(crn.Refused) as why:
         planned(program, case.get("unpriced", 0), **case["words"])
     assert case["said"] in str(why.value)
+
+
+def test_a_group_without_a_plan(program: Path, monkeypatch: pytest.MonkeyPatch) -> None:
+    def refused(*_: Any) -> None:
+        raise crn.Refused("it has no policy")
+
+    monkeypatch.setattr(prices_of_groups, "offer_of", refused)
+    with pytest.raises(crn.Refused, match="none of its items can be planned"):
+        planned(program, together=WANTED)
 
 
 def write(folder: Path) -> list[Path]:
@@ -260,8 +287,6 @@ def test_page_of_an_item(together: crn.Plan) -> None:
     own = together.item("I-003")
     assert "together they are to meet 90% of their demand at once" in own.page
     assert "fill rate of 95% is wanted" not in own.page
-    cases = own.moves().frame.case
-    assert not cases.str.contains("fill rate").any() and cases.size > 4
     with planned_folder(together.path) as folder:
         item, answer = folder.item("I-003")
     price = groups_of(together)[""].price

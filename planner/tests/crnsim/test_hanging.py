@@ -3,6 +3,7 @@ from __future__ import annotations
 
 import multiprocessing
 import os
+import shlex
 import signal
 import subprocess
 import sys
@@ -21,7 +22,7 @@ from crnplan.store.processes import end_with_programs
 from planner.tests.conftest import Command, heed_interrupts, script, write_inputs
 
 TOP = Path(__file__).resolve().parents[3]
-SCENARIO = str(TOP / "examples/two_policies.toml")
+SCENARIO = shlex.quote(str(TOP / "examples/two_policies.toml"))
 # Programs that never answer: one that waits, one that is busy; neither heeds an interrupt. Each says its number.
 WAYS = {"waits": "exec sleep 1000", "is busy": "while :; do :; done"}
 HANGING = 'trap "" INT TERM\necho $$ >> "{taken}"\n{way}'
@@ -90,7 +91,7 @@ def test_commands_whose_program_hangs(
 ) -> None:
     """Each command ends with status 3, and leaves no program behind."""
     monkeypatch.setattr(module, "RUN_SECONDS", SHORT)
-    told = crnplan(*COMMANDS[name].split(), "--program", hanging(room, "waits"))
+    told = crnplan(*shlex.split(COMMANDS[name]), "--program", hanging(room, "waits"))
     assert (
         told.status == 3
         and "a run has not ended in 0.5 seconds" in told.errors
@@ -103,7 +104,7 @@ def test_commands_whose_program_hangs(
 @pytest.mark.parametrize("name", ["run", "catalogue"])
 def test_interrupted_while_a_program_hangs(room: Path, name: str) -> None:
     """An interrupt that only crnplan gets ends it at once, and the programs with it."""
-    words = f"{COMMANDS[name]} --program {hanging(room, 'waits')}".split()
+    words = shlex.split(f"{COMMANDS[name]} --program {hanging(room, 'waits')}")
     with subprocess.Popen(
         [sys.executable, "-m", "crnplan", *words],
         stdout=subprocess.DEVNULL,
@@ -128,7 +129,7 @@ def test_interrupted_while_a_program_hangs(room: Path, name: str) -> None:
 def test_a_worker_whose_command_was_killed(room: Path) -> None:
     """Workers end with the process that they work for, and so do the programs that they run."""
     write_inputs(room, "ABCDEFGHIJ")
-    words = f"{COMMANDS['catalogue']} --program {hanging(room, 'waits')}".split()
+    words = shlex.split(f"{COMMANDS['catalogue']} --program {hanging(room, 'waits')}")
     with subprocess.Popen(
         [sys.executable, "-m", "crnplan", *words],
         stdout=subprocess.DEVNULL,

@@ -12,7 +12,6 @@ from scipy import stats
 from crnplan.demand import index
 from crnplan.demand.index import (
     FLAT,
-    MONTHS,
     Index,
     Years,
     class_index,
@@ -24,6 +23,7 @@ from crnplan.demand.seasons import CALENDAR
 from crnplan.read.dates import period_of
 
 RANDOM = np.random.default_rng(20261129)
+MONTHS = 12
 STRONG = 1 + 0.6 * np.sin(2 * math.pi * np.arange(MONTHS) / MONTHS)
 FIRST = date(2021, 2, 3)
 LENGTHS = {"day": 800, "week": 130, "month": 30}  # two years and some periods
@@ -41,15 +41,19 @@ def counts_of(length: int) -> list[int]:
 
 @pytest.mark.parametrize("every", LENGTHS)
 def test_ratios(every: str) -> None:
-    """The ratios are those of means by year from the end and by month, of weeks by their Thursday."""
+    """The ratios are those of means by year from the end and by month, or by 14 days from 1 January on, of weeks by their
+    Thursday."""
     counts = counts_of(LENGTHS[every])
     periods = pd.period_range(
         FIRST, periods=len(counts), freq={"day": "D", "week": "W", "month": "M"}[every]
     )
     middle = periods.start_time + pd.Timedelta(days=3 if every == "week" else 0)
     age = (len(counts) - 1 - np.arange(len(counts))) // CALENDAR[every]["season"]
-    table = pd.DataFrame({"n": counts, "age": age, "month": middle.month})
-    means = table.groupby(["age", "month"])["n"].mean().unstack()
+    part = middle.month
+    if every != "month":
+        part = ((middle.dayofyear - 1) // 14).where(middle.dayofyear <= 350, 25)
+    table = pd.DataFrame({"n": counts, "age": age, "part": part})
+    means = table.groupby(["age", "part"])["n"].mean().unstack()
     ratios = means.div(table.groupby("age")["n"].mean(), axis=0)
     years = Years.of(counts, every, period_of(FIRST, every))
     assert years.ratios == pytest.approx(ratios.loc[[0, 1]].to_numpy())
@@ -65,7 +69,7 @@ def test_years_without_demand() -> None:
 
 
 def test_years_with_unknown_periods() -> None:
-    """A week counts as the others of its month, and a month of which nothing is known as the others of its year."""
+    """A week counts as the other of its 14 days, and a month of which nothing is known as the others of its year."""
     by_half = Years.of([1, 3] * 6, "month", 2021 * 12, [0, 2])
     assert by_half.ratios[0, :4] * 2.2 == pytest.approx([2.2, 3, 2.2, 3])
     weeks = [5] * 52
@@ -86,34 +90,43 @@ def test_pooled() -> None:
         (3 * row).tolist(),
     ]
     assert len(index.pooled([young, young, old])) == 1
-    assert index.pooled([]).shape == (0, 12)
+    assert len(index.pooled([])) == 0
 
 
 def test_chance() -> None:
-    """The p value is that of the F law of two frequencies together, whatever line each year has."""
-    far = RANDOM.normal(0, 1, (3, MONTHS))
-    time = np.arange(MONTHS) / MONTHS
-    columns, alike, within = [np.ones(MONTHS), time], 0.0, 0.0
-    for frequency in (1, 2):
-        angle = 2 * math.pi * frequency * (time + 1 / 24)
-        for wave in (np.cos(angle), np.sin(angle)):
-            fit = np.linalg.lstsq(np.transpose(columns), wave, rcond=None)[0]
-            rest = wave - np.transpose(columns) @ fit
-            part = far @ rest / np.linalg.norm(rest)
-            columns.append(wave)
-            alike += 3 * part.mean() ** 2
-            within += ((part - part.mean()) ** 2).sum()
-    expected = stats.f.sf((alike / 4) / (within / 8), 4, 8)
-    assert index.chance_of(far) == pytest.approx(expected)
-    lines = far + np.outer([1, -3, 8], time) + 2
-    assert index.chance_of(lines) == pytest.approx(expected)
+    """The p value is twice the lower one of the F laws of two slow frequencies together and of faster ones, whatever line
+    each year has: up to four times a year of months, and six of two weeks."""
+    for parts, most in ((12, 4), (26, 6)):
+        far = RANDOM.normal(0, 1, (3, parts))
+        time = np.arange(parts) / parts
+        columns, chances = [np.ones(parts), time], []
+        for frequencies in (range(1, 3), range(3, most + 1)):
+            alike, within = 0.0, 0.0
+            for frequency in frequencies:
+                angle = 2 * math.pi * frequency * (time + 0.5 / parts)
+                for wave in (np.cos(angle), np.sin(angle)):
+                    fit = np.linalg.lstsq(np.transpose(columns), wave, rcond=None)[0]
+                    rest = wave - np.transpose(columns) @ fit
+                    part = far @ rest / np.linalg.norm(rest)
+                    columns.append(wave)
+                    alike += 3 * part.mean() ** 2
+                    within += ((part - part.mean()) ** 2).sum()
+            waves = 2 * len(frequencies)
+            ratio = (alike / waves) / (within / (2 * waves))
+            chances.append(stats.f.sf(ratio, waves, 2 * waves))
+        expected = min(1, 2 * min(chances))
+        assert index.chance_of(far) == pytest.approx(expected)
+        lines = far + np.outer([1, -3, 8], time) + 2
+        assert index.chance_of(lines) == pytest.approx(expected)
 
 
 @pytest.mark.parametrize("years", [2, 3, 5])
 def test_chances_of_no_season(years: int) -> None:
-    """P values of independent years are even from 0 to 1."""
+    """P values of independent years are those of twice the lower one of two even numbers."""
     drawn = [index.chance_of(RANDOM.normal(0, 1, (years, MONTHS))) for _ in range(2000)]
-    assert stats.kstest(drawn, "uniform").pvalue > 0.001
+    lower = 1 - (1 - np.array(drawn) / 2) ** 2
+    assert stats.kstest(lower[lower < 0.75], stats.uniform(0, 0.75).cdf).pvalue > 0.001
+    assert np.mean(np.array(drawn) == 1) == pytest.approx(0.25, abs=0.04)
     assert index.chance_of(np.zeros((2, MONTHS))) == 1
     assert index.chance_of(np.tile(STRONG, (years, 1))) == pytest.approx(0)
 
@@ -132,8 +145,8 @@ def test_shrinking() -> None:
     assert rare.values == pytest.approx(raised / raised.mean())
 
 
-def item_with(season: np.ndarray, years: int, mean: float = 20) -> Years:
-    counts = RANDOM.poisson(mean * np.tile(season, years)).tolist()
+def item_with(season: np.ndarray | float, years: int, mean: float = 20) -> Years:
+    counts = RANDOM.poisson(mean * np.tile(season * np.ones(MONTHS), years)).tolist()
     return Years.of(counts, "month", 2021 * 12)
 
 
@@ -212,15 +225,3 @@ def test_alarms_of_a_class() -> None:
     assert chances[seen - 1] <= own_alarms(class_) < chances[seen]
     assert own_alarms(half_turned(9)) == 0
     assert own_alarms(half_turned(12, 1)) == 0
-
-
-def test_flattened() -> None:
-    """Counts over an index are rounded at random to one of their neighbours, and their mean stays."""
-    by_period = np.array([0.8, 1.25, 1.0, 0.6])
-    drawn = np.array(
-        [index.flattened([3, 7, 4, 0], by_period, RANDOM) for _ in range(4000)]
-    )
-    assert drawn.mean(axis=0) == pytest.approx([3.75, 5.6, 4, 0], abs=0.05)
-    assert (
-        {*drawn[:, 0]} == {3, 4} and {*drawn[:, 2]} == {4} and drawn.dtype.kind == "i"
-    )

@@ -7,8 +7,11 @@ import re
 from collections.abc import Iterator
 from pathlib import Path
 from types import ModuleType
+from typing import Any, ClassVar
 
 import pytest
+from flask import Request
+from werkzeug.datastructures import ImmutableMultiDict
 
 from crnplan.desk import server
 from crnplan.desk.front import PAGES, Front
@@ -183,22 +186,59 @@ def asked_of(planner: Planner) -> Iterator[tuple[str, str, list[str]]]:
                 yield method, rule.rule, known
 
 
-def test_values_are_refused_in_words(full: Planner) -> None:
-    """No value of a query, a form or a path is an internal error, whatever it names."""
-    faults = []
+class Looked(ImmutableMultiDict[str, str]):
+    """What is asked or sent. It keeps the names that a page looks for; that of all is "" if it takes whatever there is."""
+
+    names: ClassVar[set[str]] = set()
+
+    def __contains__(self, name: object) -> bool:
+        self.names.add(str(name))
+        return super().__contains__(name)
+
+    def __getitem__(self, name: str) -> str:
+        self.names.add(name)
+        return super().__getitem__(name)
+
+    def getlist(self, name: str, *words: Any) -> list[Any]:
+        self.names.add(name)
+        return super().getlist(name, *words)
+
+    def items(self, *words: Any) -> Any:
+        self.names.add("")
+        return super().items(*words)
+
+    def __iter__(self) -> Iterator[str]:
+        self.names.add("")
+        return super().__iter__()
+
+
+def test_values_are_refused_in_words(
+    full: Planner, monkeypatch: pytest.MonkeyPatch
+) -> None:
+    """No value of a query, a form or a path is an internal error, whatever it names. A name that a page doesn't look for is
+    asked or sent once."""
+    monkeypatch.setattr(Request, "parameter_storage_class", Looked)
+    faults, looked = [], 0
+
+    def ask(method: str, path: str, **fields: str) -> None:
+        Looked.names.clear()
+        answer = (
+            full.get(path, **fields) if method == "GET" else full.post(path, fields)
+        )
+        if answer.status_code >= 500 or b"root:" in answer.data:
+            faults.append((method, path, fields, answer.status_code))
+
     for method, rule, names in asked_of(full):
-        paths = [re.sub(r"<[^>]*>", "x", rule)]
-        if "<" in rule:
-            paths += [re.sub(r"<[^>]*>", part, rule) for part in ("%00", "..%2f", "-1")]
-        asked = [(path, {}) for path in paths]
-        asked += [(paths[0], {name: value}) for name in names for value in VALUES]
-        for path, fields in asked:
-            answer = (
-                full.get(path, **fields) if method == "GET" else full.post(path, fields)
-            )
-            if answer.status_code >= 500 or b"root:" in answer.data:
-                faults.append((method, path, fields, answer.status_code))
-    assert faults == []
+        for part in ("x", "%00", "..%2f", "-1") if "<" in rule else ("x",):
+            ask(method, re.sub(r"<[^>]*>", part, rule))
+        path = re.sub(r"<[^>]*>", "x", rule)
+        for name in names:
+            ask(method, path, **{name: VALUES[0]})
+            if Looked.names & {name, ""}:
+                looked += 1
+                for value in VALUES[1:]:
+                    ask(method, path, **{name: value})
+    assert faults == [] and looked > 15
     assert full.get(f"/{PAGES[0]}").status_code == 200
 
 

@@ -72,19 +72,6 @@ def doubted(row: Row) -> list[str]:
     ]
 
 
-def moved(row: Row) -> list[str]:
-    return [
-        row["case"],
-        row["s"],
-        row["S"],
-        money(row["cost"]),
-        share(row["fill"]),
-        money(row["kept_cost"]),
-        f"{abs(float(row['kept_more'])):.1%}",
-        share(row["kept_fill"]),
-    ]
-
-
 def policies_of(item: crn.PlannedItem) -> DataTable:
     return item.table
 
@@ -93,18 +80,10 @@ def doubt_of(item: crn.PlannedItem) -> DataTable:
     return item.doubt().table
 
 
-def moves_of(item: crn.PlannedItem) -> DataTable:
-    return item.moves().table
-
-
 Tabled = tuple[Callable[[crn.PlannedItem], DataTable], Callable[[Row], list[str]]]
 TABLES: dict[str, Tabled] = {
     "All policies in the long run": (policies_of, policy),
     "Each policy under the laws that the history allows": (doubt_of, doubted),
-    "The best policy in each case, and what it costs to keep the chosen one": (
-        moves_of,
-        moved,
-    ),
 }
 
 

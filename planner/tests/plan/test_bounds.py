@@ -152,7 +152,7 @@ def test_what_a_bound_costs(
 
 
 def test_a_smallest_order_beyond_what_s_may_cover(program: Path) -> None:
-    """A smallest order lets S cover more. No bound is said to save something by that."""
+    """No bound is said to save something, whatever the smallest order is."""
     for smallest in (12, 20, 30):
         _, facts = answer_of(
             asked(
@@ -226,7 +226,7 @@ def test_a_default_costs_no_wanted_service(
     answer, remarks = answer_of(question, program)
     point, level = answer.chosen.levels
     most = sum(counts) * 104 // len(counts)
-    assert question.theory.feasible == Feasible(0, 1, most_gap=most)
+    assert question.theory.feasible == Feasible(1, most_gap=most)
     assert level - point <= most
     assert answer.chosen.fill >= 0.95
     assert answer.verdict != BOUNDED
@@ -353,14 +353,13 @@ def test_no_order_waits_for_a_customer(program: Path) -> None:
 def test_an_earlier_policy_out_of_bounds_does_not_stay(program: Path) -> None:
     """A policy of an earlier plan stays if a change gains little, but not if it is out of bounds."""
     settings = alone(fit="empirical", least_gain=0.9)
-    for bounds, stays in ((OrderBounds(), True), (OrderBounds(order_min=9), False)):
+    for bounds, stays in ((OrderBounds(), True), (OrderBounds(s_min=4), False)):
         question = question_of(asked(bounds).item, settings, None, (3, 9))
         assert (plan_one(question, str(program)).undamped is not None) == stays
 
 
 def test_deeper_looks_respect_the_bounds(program: Path) -> None:
-    """All suggested policies but today's are within the bounds, and so is the best of each case, and the decision without
-    the largest periods."""
+    """All suggested policies but today's are within the bounds, and so is the decision without the largest periods."""
     question = asked(OrderBounds(3, 20, 3, Fraction(30)), counts=(*SEEN, 40), **DEAR)
     depth = Depth(question, plan_one(question, str(program)), str(program), laws=4)
     feasible = question.theory.feasible
@@ -368,14 +367,8 @@ def test_deeper_looks_respect_the_bounds(program: Path) -> None:
     assert len(own) > 5
     for levels in own:
         assert feasible.allows(*levels)
-    moves = {(move.s, move.S) for move in depth.moves.moves}
-    assert len(moves) > 3
-    for s, S in moves:
-        assert S - s >= 19
-        assert s >= 3
     assert depth.without
-    rare = depth.without.rare
-    assert rare.level - rare.point >= 19
+    assert depth.without.rare.point >= 3
 
 
 def test_bounds_of_a_catalogue(crnplan: Command, tmp_path: Path, program: Path) -> None:

@@ -8,7 +8,7 @@ from dataclasses import replace
 import pytest
 
 from crnplan.plan import changes
-from crnplan.plan.answer import Figures, LawFacts, Month
+from crnplan.plan.answer import Figures, LawFacts, YearPart
 from crnplan.plan.backtest.outcomes import Outcome
 from crnplan.plan.changes import Change, ChangeSums, PlannedTwice, Since, SinceSums
 from crnplan.plan.how import Settings
@@ -123,7 +123,7 @@ def test_kind_of_a_season(levels: tuple[int, int], kind: str) -> None:
     not of the month before."""
     item, answer = made_pair(random.Random(1), "it")
     item = replace(item, counts=(0, 3, 1) * 20, first=1000)
-    months = Month(1055, 1060, 4, 13, 1.0), Month(1060, 1065, 3, 11, 1.0)
+    months = YearPart(1055, 1060, 4, 13, 1.0), YearPart(1060, 1065, 3, 11, 1.0)
     chosen = replace(answer.chosen, point=levels[0], level=levels[1])
     pair = PlannedTwice(
         (item, replace(answer, calendar=months)),

@@ -60,7 +60,7 @@ def costs_of(
     return costs
 
 
-@pytest.mark.parametrize("bounds", [OrderBounds(), OrderBounds(order_min=20)])
+@pytest.mark.parametrize("bounds", [OrderBounds(), OrderBounds(s_min=20)])
 def test_costs_in_quarters_by_a_loop(bounds: OrderBounds) -> None:
     """Each quarter costs what the best policy by the others costs in it, in the second pass through the record. What was
     promised is what theory says of these policies, which a bound of the item makes dearer.
@@ -70,7 +70,7 @@ def test_costs_in_quarters_by_a_loop(bounds: OrderBounds) -> None:
     for first, end in blocks_of(16):
         question = question_of(item.without(range(first, end)), OWN)
         s, S = question.theory.best(0.0).levels
-        assert S - s >= 19 or not bounds.order_min
+        assert s >= 20 or not bounds.s_min
         random = np.random.default_rng(question.seed("trial"))
         question.lead.draws(random, 32)
         stock = s + round(float(random.random()) * (S - s))

@@ -10,6 +10,7 @@ import pytest
 from crnplan.demand.learning import Prior
 from crnplan.demand.level import factor_of
 from crnplan.formats import MOST_DEMAND
+from crnplan.demand.rate import at_rate
 from crnplan.law import Law
 from crnplan.plan.choice import allowed_by
 from crnplan.plan.correction import trial_of
@@ -41,7 +42,7 @@ def test_law_by_hand() -> None:
     factor = factor_of(risen().counts, WEIGHT)
     assert factor > 1.2
     assert question.level and question.level.weight == WEIGHT
-    assert question.demand.table == plain.demand.times(factor)
+    assert question.demand.table == at_rate(plain.demand.table, factor)
     assert question.all_year is question.demand
     assert question.of_record.table == plain.demand.table == plain.of_record.table
     by_hand = dataclasses.replace(plain, demand=question.demand)
@@ -56,7 +57,7 @@ def test_allowed_laws_are_at_the_level() -> None:
     question, plain = question_of(risen(), settings()), question_of(risen(), alone())
     assert question.level
     laws, before = ([law for law, _ in allowed_by(it, 4)] for it in (question, plain))
-    assert laws == [law.times(question.level.factor) for law in before]
+    assert laws == [at_rate(law, question.level.factor) for law in before]
 
 
 def test_level_and_season() -> None:
@@ -70,14 +71,14 @@ def test_level_and_season() -> None:
     )
     assert question.level and question.season and plain.season
     assert question.level.factor == factor_of(question.item.counts, WEIGHT)
-    moved = plain.all_year.times(question.level.factor)
+    moved = at_rate(plain.all_year.table, question.level.factor)
     assert question.all_year.table == moved
-    assert question.demand.table == moved.times(question.season.factor)
+    assert question.demand.table == at_rate(moved, question.season.factor)
     assert question.flat.demand.table == moved
     stretch = question.season.year[5]
-    month = question.month(stretch)
+    month = question.during(stretch)
     assert month.season
-    assert month.demand.table == moved.times(month.season.factor)
+    assert month.demand.table == at_rate(moved, month.season.factor)
 
 
 @pytest.mark.parametrize(

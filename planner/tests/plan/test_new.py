@@ -31,8 +31,8 @@ from planner.tests.theory.long_run_costs import fills_of, shortfall_of
 
 ALL, BY_CLASS = Settings(borrow="all", **SHORT), Settings(borrow="class", **SHORT)
 
-# Of a year in whose first month 6.5 times as much is asked for as in the mean, an item with one demand, in that month.
-SEASON = Index((6.5, *[0.5] * 11), 0.001, 1.0, 3)
+# Of a year in whose first two weeks 13.5 times as much is asked for as in the mean, an item with one demand, in these.
+SEASON = Index((13.5, *[0.5] * 25), 0.001, 1.0, 3)
 IN_SEASON = Settings(
     fit="empirical", every="week", seasons=Seasons("week", {"A": SEASON}), **SHORT
 )
@@ -105,7 +105,6 @@ def test_a_new_item_without_a_backlog_cost(prior: Prior, program: Path) -> None:
             ALL,
             "no demand in record",
         ),
-        (LITTLE, IN_SEASON, "no demand without season"),
     ],
     ids=str,
 )

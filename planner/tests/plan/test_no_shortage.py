@@ -2,6 +2,7 @@
 own, and in what is read, refused, shown and counted."""
 from __future__ import annotations
 
+import itertools
 from fractions import Fraction
 from pathlib import Path
 from typing import Any
@@ -13,10 +14,11 @@ import pytest
 import crnplan as crn
 from crnplan.plan.answer import BOUNDED, SERVICE, Answer
 from crnplan.plan.backtest.smoothing import wanted_share
-from crnplan.plan.choice import choice_of
+from crnplan.plan.binding import remarks_of_today
+from crnplan.plan.choice import Choice, choice_of, unless_worse
 from crnplan.plan.one import plan_one
 from crnplan.plan.question import Question, question_of
-from crnplan.plan.what_ifs import cases_of
+from crnplan.plan.what_ifs import what_if
 from crnplan.read.bounds import OrderBounds
 from crnplan.remarks import Remark
 from crnplan.sentences import sentence
@@ -93,15 +95,20 @@ def test_more_service_by_periods(program: Path) -> None:
     assert plan_one(question, str(program)).verdict == SERVICE
 
 
-def test_today_stays_if_it_has_fewer_shortages(program: Path) -> None:
-    """It is no dearer than the best within its bounds, and has fewer shortages, though it meets less at once."""
-    question = asked(**LUMPY, bounds=OrderBounds(order_min=15), levels=(2, 7))
-    choice = choice_of(question, True)
-    assert choice.levels == (2, 7) and choice.worse
-    today, worse = question.figures((2, 7)), question.figures(choice.worse)
+def test_today_stays_if_it_has_fewer_shortages() -> None:
+    """It is no dearer than the best of wide policies, and has fewer shortages, though it meets less at once."""
+    question = asked(**LUMPY, levels=(2, 7))
+    wide = {}
+    for s, gap in itertools.product(range(9), range(14, 20)):
+        figures = question.figures((s, s + gap))
+        if figures.short <= 0.2:
+            wide[s, s + gap] = figures
+    best = min(wide, key=lambda levels: wide[levels].cost)
+    choice = unless_worse(Choice(best, best), question, None)
+    assert choice.levels == (2, 7) and choice.worse == best
+    today, worse = question.figures((2, 7)), wide[best]
     assert today.short < worse.short < 0.2 and today.fill < worse.fill
-    remarks = plan_one(question, str(program)).remarks
-    (said,) = [sentence(it) for it in remarks if it.code == "today stays"]
+    (said,) = map(sentence, remarks_of_today(question, choice))
     assert said.endswith(
         "has no shortage in 80.65% of periods where today's has no shortage in 81.00%"
     )
@@ -134,10 +141,10 @@ def test_a_confidence_in_the_goal(program: Path) -> None:
 
 
 def test_what_if_another_share_is_wanted() -> None:
-    words = [case.words for case in cases_of(asked(), [])]
-    assert "no shortage in 97.5% of periods" in words
-    assert "no shortage in 90% of periods" in words
-    assert not any("fill" in it for it in words)
+    """The share is of periods without a shortage, as that which the item wants."""
+    question = asked()
+    shares = [question.met(what_if(question, [], share=it)[0]) for it in (0.9, 0.975)]
+    assert 0.9 <= shares[0] < 0.975 <= shares[1]
     assert wanted_share(item_of(**GOAL)) == 0.95
 
 

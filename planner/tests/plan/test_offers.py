@@ -2,7 +2,6 @@
 from __future__ import annotations
 
 import dataclasses
-import math
 from fractions import Fraction
 from typing import Any
 
@@ -16,7 +15,6 @@ from crnplan.plan.how import NONE, Settings
 from crnplan.plan.offers import Asked, ByPrice, offer_of, past_of
 from crnplan.plan.prices import REST, Price, Prices
 from crnplan.plan.question import NoPolicy, Question, question_of
-from crnplan.plan.together import fill_with
 from crnplan.read.bounds import OrderBounds
 from crnplan.read.item import Item
 from planner.tests.plan.items import item_of
@@ -57,7 +55,7 @@ def pairs_of(question: Question) -> np.ndarray[Any, Any]:
 
 def priced(price: float, **words: Any) -> Settings:
     """Returns settings by which all items have a price of a unit of value."""
-    groups = {REST: Price(0.99, price, 0.99, 0.99, len(SMALL))}
+    groups = {REST: Price(0.99, price, 0.99, len(SMALL))}
     known = {"together": {REST: 0.99}, "prices": Prices(groups), **words}
     return dataclasses.replace(OWN, **known)
 
@@ -84,19 +82,13 @@ def test_best_policy_by_brute_force(
 
 
 def test_offers_by_brute_force() -> None:
-    """An offer has what the best of all pairs leave unmet, by value, and what their stock costs to hold."""
+    """An offer has what the best of all pairs leave unmet, by value."""
     settings = dataclasses.replace(OWN, together={REST: WANTED})
-    prices, fill = (0.1, 0.5, 3.0, 40.0), 0.93
+    prices = (0.1, 0.5, 3.0, 40.0)
     for item in SMALL:
         value = float(item.price or 0)
-        asked = {REST: Asked(prices, (fill,))}
-        offer = offer_of(item, settings, Prior(NONE), asked)
-        question = question_of(item, settings)
-        pairs, mean = pairs_of(question), float(question.demand.mean)
-        enough = pairs[pairs[:, 3] <= (1 - fill) * mean]
-        s, S, *_ = enough[enough[:, 2].argmin()].astype(int).tolist()
-        stock = question.figures((s, S)).stock
-        assert offer.alone == pytest.approx([float(item.holding) * stock])
+        offer = offer_of(item, settings, Prior(NONE), {REST: Asked(prices)})
+        pairs = pairs_of(question_of(item, settings))
         for price, unmet in zip(prices, offer.unmet):
             whole = pairs[:, 2] + price * value * pairs[:, 3]
             assert unmet == pytest.approx(value * pairs[whole.argmin(), 3], abs=1e-9)
@@ -114,15 +106,11 @@ def test_bounds_that_leave_few_policies() -> None:
     fullest = question.theory.fullest()
     assert is_bounded and best.levels == fullest.levels
     settings = dataclasses.replace(question.settings, prices=None)
-    asked = {REST: Asked((0.01,), (0.1, 0.98))}
-    offer = offer_of(item, settings, Prior(NONE), asked)
+    offer = offer_of(item, settings, Prior(NONE), {REST: Asked((0.01,))})
     figures = question.figures(fullest.levels)
-    held = float(item.holding) * figures.stock
     asked_for = float(question.demand.mean) * float(item.price or 0)
     assert offer.unmet == pytest.approx([(1 - figures.fill) * asked_for])
-    assert offer.held == pytest.approx([held]) and offer.alone[1] == offer.held[0]
-    assert offer.alone[0] < offer.alone[1]
-    none = dataclasses.replace(item, bounds=OrderBounds(s_min=MOST_ITEMS, order_min=9))
+    none = dataclasses.replace(item, bounds=OrderBounds(s_min=MOST_ITEMS + 1))
     with pytest.raises(NoPolicy):
         best_of(question_of(none, priced(1.0)))
 
@@ -141,21 +129,12 @@ def test_demand_in_boxes() -> None:
     levels = [best_of(question_of(it, priced(0.8)))[0].levels for it in (item, half)]
     assert levels[0] == levels[1]
     settings = dataclasses.replace(OWN, together={REST: WANTED})
-    asked = {REST: Asked((0.1, 0.8), (0.9,))}
+    asked = {REST: Asked((0.1, 0.8))}
     offers = [offer_of(it, settings, Prior(NONE), asked) for it in (item, half)]
     for one, other in zip(*map(dataclasses.astuple, offers)):
         assert one == pytest.approx(other)
     past = [past_of(it, settings, Prior(NONE), asked) for it in (item, half)]
     assert past[0].unmet == pytest.approx(past[1].unmet, rel=1e-3)
-
-
-def test_fill_rate_of_each_by_hand() -> None:
-    """Half way between 10 and 20, it leaves unmet the geometric mean of 10% and 1%."""
-    fills, held = (0.9, 0.99), np.array([10.0, 20.0])
-    assert fill_with(15.0, fills, held) == pytest.approx(1 - math.sqrt(0.1 * 0.01))
-    assert [fill_with(some, fills, held) for some in (9.0, 20.0)] == pytest.approx(
-        fills
-    )
 
 
 KINDS: tuple[dict[str, Any], ...] = (
@@ -180,4 +159,3 @@ def test_offers_are_those_of_plans(place: int) -> None:
         figures, mean = question.figures(levels), float(question.demand.mean)
         assert offered.pairs[each] == levels
         assert offered.unmet[each] == pytest.approx((1 - figures.fill) * mean)
-        assert offered.stock[each] * item.box == pytest.approx(figures.stock)

@@ -32,7 +32,6 @@ from crnplan.plan.checked_run import Disagreement
 from crnplan.plan.one import plan_asked, plan_one
 from crnplan.plan.how import Settings
 from crnplan.plan.question import Question, question_of
-from crnplan.plan.what_ifs import Moves
 from crnplan.read.item import Item
 from crnplan.remarks import Remark
 from crnplan.theory.long_run import Candidate, LongRun
@@ -135,34 +134,12 @@ def test_costs_are_those_of_the_run_where_theory_is_rounded(
     ids=["demand", "levels"],
 )
 def test_numbers_above_those_of_a_scenario(changed: dict[str, Any], text: str) -> None:
-    """What is read and fitted makes the scenario that is made with all checks. A case with more of it has none."""
+    """What is read and fitted makes the scenario that is made with all checks. With more of it there is none."""
     asked = question_of(item_of(), alone())
     scenario = asked.scenario()
     assert scenario == scenario.changed(initial=scenario.initial)
     with pytest.raises(crn.ScenarioError, match=text):
         replace(asked, **changed).theory
-
-
-def test_costs_of_cases_above_those_of_the_program(program: Path) -> None:
-    """What cases cost follows the unit of money: of costs in dimes some leave the program's range, of dollars none."""
-    found = list[Moves]()
-    for times in (1, 10):
-        costs = {
-            name: Fraction(times * cost)
-            for name, cost in (("setup", 450), ("holding", 60), ("backlog", 900))
-        }
-        question = question_of(item_of(**costs), alone())
-        found.append(
-            Depth(question, plan_one(question, str(program)), str(program)).moves
-        )
-    dollars, in_dimes = found
-    assert dollars.remarks == in_dimes.remarks
-    assert len(dollars.moves) > 8
-    for one, other in zip(dollars.moves, in_dimes.moves, strict=True):
-        assert (one.words, one.s, one.S) == (other.words, other.s, other.S)
-        assert (10 * one.cost, 10 * one.kept_cost) == pytest.approx(
-            (other.cost, other.kept_cost), rel=1e-9
-        )
 
 
 def test_the_run_is_that_of_the_key_of_the_name(program: Path) -> None:

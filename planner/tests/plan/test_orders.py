@@ -181,10 +181,10 @@ def test_lines_of_suppliers() -> None:
     # S is 20: A lacks 12, which are 3 packs of 5. A mean lead time of 5/3 weeks is 11.67 days, rounded up.
     columns = "number packs pack placed price value ordered due".split()
     assert lines[columns].to_csv() == LINES
-    assert today.frame.set_index("item").code["A"] == "below s; whole packs"
+    assert today.frame.set_index("item").code["A"] == "below s; rounded up"
     assert (
         lines.why["A"]
-        == "the position 8 is below s = 9: 12 lack up to S = 20; rounded up to 3 packs of 5"
+        == "the position 8 is below s = 9: 12 lack up to S = 20; rounded up to 15: packs of 5, at least 5"
     )
     groups = today.groups[today.groups.group == "supplier"]
     assert groups[["name", "number"]].to_csv(index=False) == SUPPLIERS

@@ -238,5 +238,5 @@ def test_a_season_without_a_run(program: Path) -> None:
     assert answer.today and answer.saving == pytest.approx(
         answer.today.cost - answer.chosen.cost, rel=1e-9
     )
-    pairs = zip(answer.months, often.months)
+    pairs = zip(answer.parts, often.parts)
     assert all(month.s > other.s for month, other in pairs)

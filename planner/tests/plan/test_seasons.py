@@ -1,4 +1,4 @@
-"""Tests plans by a season: months, laws of a month, and the mean of a year, by hand and by exact sums."""
+"""Tests plans by a season: parts of a year, their laws, and the mean of a year, by hand and by exact sums."""
 from __future__ import annotations
 
 import dataclasses
@@ -14,16 +14,17 @@ import numpy as np
 import pandas as pd
 import pytest
 
-from crnplan.demand.index import MONTHS, Index
+from crnplan.demand.index import Index
+from crnplan.demand.rate import at_rate
 from crnplan.law import Law
 from crnplan.plan.aims import FILLS, Aims, Trial
-from crnplan.plan.answer import BOUNDED, CHEAPER, RUN, SAME, UNDECIDED, Answer, Month
+from crnplan.plan.answer import BOUNDED, CHEAPER, RUN, SAME, UNDECIDED, Answer, YearPart
 from crnplan.plan.choice import allowed_by, choice_of
 from crnplan.plan.correction import trial_of
 from crnplan.demand.learning import Prior
 from crnplan.plan.item import depth_of
 from crnplan.plan.one import plan_asked, plan_one
-from crnplan.plan.yearly import PlannedMonth, Year
+from crnplan.plan.yearly import PlannedPart, Year
 from crnplan.plan.how import NONE, without_season
 from crnplan.plan.question import Question, question_of
 from crnplan.plan.seasons import (
@@ -39,11 +40,12 @@ from crnplan.sentences import sentence
 from crnplan.store.trees import value_of
 from planner.tests.plan.items import alone, item_of
 
-WAVE = tuple((1 + 0.5 * np.sin(2 * math.pi * np.arange(MONTHS) / MONTHS)).tolist())
+PARTS = 26
+WAVE = tuple((1 + 0.5 * np.sin(2 * math.pi * np.arange(PARTS) / PARTS)).tolist())
 SEASONS = Seasons("week", {"warm": Index(WAVE, 0.001, 1.0, 2)})
 FIRST = period_of(datetime.date(2022, 1, 3), "week")  # the week of 3 to 9 January
 MIDDLES = pd.date_range("2022-01-06", periods=208, freq="7D")  # its Thursdays
-FACTORS = np.array(WAVE)[MIDDLES.month - 1]
+FACTORS = np.array(WAVE)[np.minimum((MIDDLES.dayofyear - 1) // 14, PARTS - 1)]
 
 
 def seasonal(weeks: int = 104, **changed: Any) -> Item:
@@ -66,78 +68,83 @@ def answered(program: Path, words: dict[str, Any] = {}, **changed: Any) -> Answe
 
 
 def test_coming_year() -> None:
-    """A year has each month once, and the rest of one that has begun at its end; weeks belong to that of their
-    Thursday."""
-    year = coming_year("week", period_of(datetime.date(2026, 1, 26), "week"))
+    """A year has each part once, and the rest of one that has begun at its end; weeks belong to that of their Thursday:
+    23 January is in the 14 days from the 15th on."""
+    year = coming_year("week", period_of(datetime.date(2025, 1, 20), "week"))
     days = [stretch.days("week") for stretch in year[:2]]
     assert [str(day) for pair in days for day in pair] == [
-        *("2026-01-26", "2026-02-01", "2026-02-02", "2026-03-01")
+        *("2025-01-20", "2025-01-26", "2025-01-27", "2025-02-09")
     ]
-    assert len(year) == 13 and year[-1].end - year[0].first == 52
+    assert len(year) == 27 and year[-1].end - year[0].first == 52
     assert all(one.end == two.first for one, two in zip(year, year[1:]))
     months = coming_year("month", 2026 * 12 + 4)
     assert [*months] == [Stretch(it, it + 1) for it in range(24316, 24328)]
-    assert len(coming_year("day", period_of(datetime.date(2026, 1, 1), "day"))) == 12
+    days = coming_year("day", period_of(datetime.date(2026, 1, 1), "day"))
+    assert [one.end - one.first for one in days] == [14] * 25 + [15]
     assert whole_years("month", 24) == 2 and whole_years("week", 103) == 1
 
 
-@pytest.mark.parametrize("factor", [0.4, 1.0, 1.75])
-def test_times(factor: float) -> None:
-    """The law of as many times the values has as large a mean, by shares of neighbours."""
-    law = Law((0, 3, 10), (2, 1, 1))
-    scaled = law.times(factor)
-    assert float(scaled.mean) == pytest.approx(3.25 * factor, abs=1e-4)
-    for value in scaled.values:
-        assert min(abs(value - factor * own) for own in law.values) < 1
-    assert scaled.chances.get(round(10 * factor)) == pytest.approx(
-        0.25 * (1 - abs(round(10 * factor) - 10 * factor)), abs=1e-4
-    )
-
-
 def test_counts_without_season() -> None:
-    """An item is planned by its counts over the index of their months; others, and amounts that would be too large, stay
-    as they are."""
+    """An item is planned by its counts at one rate, of which as much came in the half of the year in which more is sold as
+    in the other: their sum stays. Others stay as they are."""
     settings = alone(every="week", seasons=SEASONS)
     item = seasonal()
     flat, index = without_season(item, settings)
     assert index is SEASONS.classes["warm"]
-    exact = np.array(item.counts) / FACTORS[:104]
-    assert (np.abs(np.array(flat.counts) - exact) < 1).all()
-    assert np.mean(flat.counts) == pytest.approx(exact.mean(), abs=0.15)
+    counts = np.array(flat.counts)
+    assert counts.sum() == sum(item.counts) and len(counts) == 104
+    many, _ = without_season(
+        seasonal(counts=tuple(np.rint(900 * FACTORS[:104]).astype(int))), settings
+    )
+    assert np.array(many.counts) == pytest.approx(np.mean(many.counts), rel=0.2)
     assert without_season(item, settings)[0].counts == flat.counts
     other = dataclasses.replace(item, name="B")
     assert without_season(other, settings)[0].counts != flat.counts
-    large = seasonal(counts=(4000,) * 104)
-    for same in (large, seasonal(group="")):
-        assert without_season(same, settings) == (same, None)
+    same = seasonal(group="")
+    assert without_season(same, settings) == (same, None)
     assert without_season(item, alone(every="week")) == (item, None)
 
 
-def test_amounts_that_are_too_large(program: Path) -> None:
-    """An item is planned by its season as far as its amounts without it, in another month, are within the range of a law;
-    else that is said."""
-    for mean, is_beyond in ((4000, False), (8000, True)):
-        item = seasonal(counts=tuple((mean * FACTORS[:104]).astype(int).tolist()))
-        assert SEASONS.is_beyond(item) is is_beyond
-        assert (SEASONS.of_item(item) is None) is is_beyond
+def test_unknown_and_cut_weeks_without_season() -> None:
+    """By hand: 40 were sold in a cut week of 1.25 times the mean rate of the known ones, at which 32 would have been; a week
+    of which nothing is known moves nothing."""
+    values = (1.5, *[1.0] * 24, 0.5)
+    seasons = Seasons("week", {"warm": Index(values, 0.001, 1.0, 2)})
+    settings = alone(every="week", seasons=seasons)
+    counts = (40, 0, *[9] * 50)
+    item = seasonal(counts=counts, cut=(0,), unknown=(0, 1))
+    flat, _ = without_season(item, settings)
+    known = np.array(values)[np.arange(52) // 2][2:].mean()
+    assert flat.least == (round(40 * known / 1.5),)
+    assert sum(flat.known.counts) == 50 * 9
+
+
+@pytest.mark.parametrize("mean, box", [(4_000, 1), (8_000, 2), (60_000, 10)])
+def test_amounts_beyond_a_law(program: Path, mean: int, box: int) -> None:
+    """An item whose season goes beyond 10,000 is counted in boxes, in which its best part of the year is within that."""
+    counts = tuple((mean * FACTORS[:104]).astype(int).tolist())
+    item = seasonal(counts=counts, levels=None)
     settings = alone(every="week", seasons=SEASONS)
-    for said, planned in ((item, settings), (item, alone(every="week"))):
-        answer = plan_asked((said, None), planned, Prior(NONE), str(program))
-        assert isinstance(answer, Answer) and not answer.calendar
-        codes = [remark.code for remark in answer.remarks]
-        assert ("season not planned" in codes) is (planned is settings)
+    answer = plan_asked((item, None), settings, Prior(NONE), str(program))
+    assert isinstance(answer, Answer) and answer.calendar
+    assert box <= answer.laws.box <= 1.3 * box
+    for part in (answer.parts[0], max(answer.parts, key=lambda it: it.factor)):
+        mean_then = float(answer.laws_in(part.first).demand.mean) * answer.laws.box
+        assert mean_then == pytest.approx(mean * part.factor, rel=0.01)
 
 
-def test_law_of_a_month() -> None:
-    """The law of a month is that without the season times the mean index over the month and a lead time more."""
+def test_law_of_a_part_of_the_year() -> None:
+    """The law of a part is that without the season at the mean rate over the periods that its orders cover: each week and a
+    lead time of three more."""
     question = asked(leads=(2, 4))
     assert question.season and question.as_read.counts != question.item.counts
     flat = float(question.all_year.mean)
     for stretch in question.season.year:
-        month = question.month(stretch)
-        first = stretch.first - FIRST
-        mean = FACTORS[first : stretch.end - FIRST + 3].mean()
-        assert float(month.demand.mean) == pytest.approx(flat * mean, rel=1e-3)
+        part = question.during(stretch)
+        first, end = stretch.first - FIRST, stretch.end - FIRST
+        weeks = [FACTORS[week : week + 4].mean() for week in range(first, end)]
+        mean = np.mean(weeks) / FACTORS[:104].mean()
+        assert float(part.demand.mean) == pytest.approx(flat * mean, rel=1e-3)
     alone_ = question.alone()
     assert alone_.season and float(alone_.demand.mean) == pytest.approx(
         float(alone_.season.law.mean) * question.season.factor, rel=1e-3
@@ -159,11 +166,12 @@ def test_own_season() -> None:
     item = seasonal(counts=tuple(counts))
     index = SEASONS.of_item(item)
     assert index and SEASONS.is_own(item, index)
-    assert index.values.index(max(index.values)) == 9
+    assert index.values.index(max(index.values)) in (18, 19, 20)
     question = question_of(item, alone(every="week", seasons=SEASONS))
     assert question.season
     facts = question.season.remark.facts
-    assert (facts["is_own"], facts["years"], facts["month_most"]) == (True, 3, 10)
+    assert (facts["is_own"], facts["years"], facts["days"]) == (True, 3, 14)
+    assert facts["part_most"] == index.values.index(max(index.values))
     assert facts["most"] == max(index.values) and facts["least"] == min(index.values)
 
 
@@ -182,7 +190,9 @@ def test_classes_whose_items_differ() -> None:
         index = seasons.of_item(item)
         assert index and seasons.is_own(item, index) is (item.group == "mixed")
         peaks.append(index.values.index(max(index.values)))
-    assert peaks == [3, 3, 9, 3] * 6
+    # The sine is greatest in part 6 or 7 of 26, and half a year later in part 19 or 20.
+    expected = [6.5, 6.5, 19.5, 6.5] * 6
+    assert (np.abs(np.array(peaks) - expected) <= 1).all()
     assert (
         value_of(Seasons, json.loads(json.dumps(dataclasses.asdict(seasons))))
         == seasons
@@ -190,7 +200,7 @@ def test_classes_whose_items_differ() -> None:
 
 
 def stepped(marked: Sequence[int], lift: int = 1, **changed: Any) -> list[Item]:
-    """Returns a class of items with the same demand in all weeks of a month, but for a lift in some weeks."""
+    """Returns a class of items with the same demand in all weeks of a part of the year, but for a lift in some weeks."""
     items = list[Item]()
     for place in range(12):
         counts = np.rint((20 + place) * FACTORS[:104]).astype(int)
@@ -201,7 +211,7 @@ def stepped(marked: Sequence[int], lift: int = 1, **changed: Any) -> list[Item]:
 
 
 def test_no_season_is_learned_from_promotions() -> None:
-    """Marked weeks count as the others of their month: the season is that of the same years without a promotion. So do
+    """Marked weeks count as the others of their part of the year: the season is that of the same years without a promotion. So do
     those that are not known, and those that are found. What is not marked changes it, where rows mark others.
     """
     weeks = [11, 31, 32, 88]
@@ -234,8 +244,8 @@ def test_promotions_in_the_same_week_are_no_season() -> None:
     assert seasons(chance, **flat).classes == {}
     assert len(seasons(chance, **flat).promoted["warm"]) == 2
     only = seasons(feast, **flat)
-    assert only.classes["warm"].values[11] > 1.3 and not only.promoted
-    assert seasons(chance).classes["warm"].values[3] > 1.2
+    assert only.classes["warm"].values[25] > 1.3 and not only.promoted
+    assert seasons(chance).classes["warm"].values[6] > 1.2
 
 
 def test_where_weeks_are_looked_for() -> None:
@@ -270,7 +280,8 @@ def test_promotions_of_an_item() -> None:
 
 def test_own_season_without_promotions() -> None:
     """By hand: three years of ratios, in one of which a marked month counts as the mean of the others of its year."""
-    ratios = np.tile(WAVE, (3, 1))
+    wave = 1 + 0.5 * np.sin(2 * math.pi * np.arange(12) / 12)
+    ratios = np.tile(wave, (3, 1))
     counts = np.rint(1000 * ratios).astype(int)
     counts[1, 4] *= 5
     item = seasonal(counts=tuple(counts.ravel().tolist()), first=2022 * 12)
@@ -287,7 +298,7 @@ def year_by_hand(question: Question, levels: Sequence[tuple[int, int]]) -> np.nd
     assert question.season
     rows, weights = [], []
     for stretch, own in zip(question.season.year, levels):
-        month = question.month(stretch)
+        month = question.during(stretch)
         figures = month.figures(own)
         rows.append((figures.cost, figures.fill, figures.stock, figures.orders))
         weeks = stretch.end - stretch.first
@@ -297,12 +308,12 @@ def year_by_hand(question: Question, levels: Sequence[tuple[int, int]]) -> np.nd
 
 
 def test_year(program: Path) -> None:
-    """Figures are means of the months, by weeks, of the fill rate by demand; the calendar has the best levels of each."""
+    """Figures are means of the parts of the year, by weeks, of the fill rate by demand; the calendar has the best levels of each."""
     answer, question = answered(program), asked()
     assert question.season and question.levels and answer.today
-    best = [choice_of(question.month(it), True).levels for it in question.season.year]
-    assert [(month.s, month.S) for month in answer.months] == best
-    assert [month[:2] for month in answer.months] == [*question.season.year]
+    best = [choice_of(question.during(it), True).levels for it in question.season.year]
+    assert [(month.s, month.S) for month in answer.parts] == best
+    assert [month[:2] for month in answer.parts] == [*question.season.year]
     for figures, levels in (
         (answer.chosen, best),
         (answer.today, [question.levels] * len(best)),
@@ -320,7 +331,7 @@ def test_year(program: Path) -> None:
     without = question_of(seasonal(group=""), alone(every="week", seasons=SEASONS))
     plain = plan_one(without, str(program))
     assert plain.calendar == () and depth_of(without, plain, "").answer is plain
-    assert plain.month(FIRST) is None
+    assert plain.part(FIRST) is None
 
 
 def test_runs_of_a_year(program: Path) -> None:
@@ -328,7 +339,7 @@ def test_runs_of_a_year(program: Path) -> None:
     answer, question = answered(program), asked()
     assert question.season
     year = question.season.year
-    runs = [plan_one(question.month(it), str(program)).run for it in year]
+    runs = [plan_one(question.during(it), str(program)).run for it in year]
     weeks = [it.end - it.first for it in year]
     for name in ("cost_today", "cost_chosen", "saving", "error", "low", "high"):
         mean = np.average([getattr(run, name) for run in runs], weights=weeks)
@@ -350,7 +361,7 @@ def test_corrected_year(program: Path) -> None:
     assert question.season and answer.correction and answer.correction.aim > 0.95
     year, plain, costs = question.season.year, [], []
     for stretch in year:
-        month = plan_one(question.month(stretch), str(program))
+        month = plan_one(question.during(stretch), str(program))
         assert month.correction
         plain.append(month.correction.plain_stock)
         costs.append(month.confidence_cost)
@@ -363,7 +374,7 @@ def test_corrected_year(program: Path) -> None:
 def test_verdicts_of_a_year(program: Path) -> None:
     """A policy is the same if it is that of each month; one beyond the bounds stays bounded, and one without a policy
     today is compared with none."""
-    flat = Seasons("week", {"warm": Index((1.0,) * MONTHS, 0.001, 1.0, 2)})
+    flat = Seasons("week", {"warm": Index((1.0,) * PARTS, 0.001, 1.0, 2)})
     item = seasonal()
     words = alone(every="week", seasons=flat), Prior(NONE), str(program)
     first = plan_asked((item, None), *words)
@@ -386,17 +397,17 @@ def test_verdict_of_a_year_by_runs(program: Path) -> None:
     by_run = dataclasses.replace(answer, source=RUN)
     for low, verdict in ((0.1, CHEAPER), (-0.1, UNDECIDED)):
         run = dataclasses.replace(answer.run, low=low, high=9.0)
-        year = Year([PlannedMonth(question, dataclasses.replace(by_run, run=run))])
+        year = Year([PlannedPart(question, dataclasses.replace(by_run, run=run))])
         assert year.verdict(year.answers[0]) == verdict
 
 
 def test_month_of_a_day(program: Path) -> None:
     """A later year has the same months, and a day of the record the first."""
     answer = answered(program)
-    first, *_, last = answer.months
-    assert answer.month(first.first - 9) == answer.month(first.first) == first
-    assert answer.month(last.end - 1) == last
-    assert answer.month(last.end) == first == Month(*answer.calendar[0])
+    first, *_, last = answer.parts
+    assert answer.part(first.first - 9) == answer.part(first.first) == first
+    assert answer.part(last.end - 1) == last
+    assert answer.part(last.end) == first == YearPart(*answer.calendar[0])
     assert answer.chosen_in(first.first) == answer.chosen
     late = answer.chosen_in(last.first)
     assert late.levels == (last.s, last.S) and late.fill == answer.chosen.fill
@@ -412,7 +423,7 @@ def test_confidence_and_doubt() -> None:
     laws = [law for law, _ in allowed_by(question, 40)]
     means = np.mean([float(law.mean) for law in laws])
     assert means == pytest.approx(float(question.demand.mean), rel=0.1)
-    turned = question.month(question.season.year[3])
+    turned = question.during(question.season.year[3])
     laws = [law for law, _ in allowed_by(turned, 40)]
     means = np.mean([float(law.mean) for law in laws])
     assert means == pytest.approx(float(turned.demand.mean), rel=0.1)

@@ -12,12 +12,12 @@ import pytest
 
 from crnplan.demand.index import Index
 from crnplan.law import Law
-from crnplan.plan.answer import CHOSEN, TODAY, Month
+from crnplan.plan.answer import CHOSEN, TODAY, Answer, YearPart
 from crnplan.plan.choice import choice_of
 from crnplan.plan.one import remarks_of_cut, remarks_of_past
 from crnplan.plan.question import Question, question_of
 from crnplan.plan.seasons import Seasons
-from crnplan.plan.what_ifs import BEST, TYPED, asked_figures
+from crnplan.plan.what_ifs import ALL_YEAR, BEST, TYPED, asked_figures
 from crnplan.read.dates import period_of
 from crnplan.read.item import Item
 from crnplan.show.item_page import laws_of
@@ -51,7 +51,7 @@ def asked() -> Question:
 
 
 def test_a_warning_names_what_was_sold() -> None:
-    """48 in June are 240 over the index, far above the 107 of other months. Both are 100 without the season."""
+    """48 in June, of which 20 are expected, are as far above that as 163 of 100 in a month with a rate of 1."""
     said = [sentence(remark) for remark in remarks_of_past(asked(), None)]
     (far,) = [one for one in said if one.startswith("far above")]
     assert far == (
@@ -84,7 +84,7 @@ def test_pictures_have_what_was_sold() -> None:
     counts = question.as_read.counts
     names = [f"{place}" for place in range(len(counts))]
     plot = history_plot(depth, names, "month")
-    mean = (np.array(counts) / np.resize(VALUES, 53)).mean()
+    mean = sum(counts) / np.resize(VALUES, 53).sum()
     low, _, high, *_ = plot.lines[0].name.removeprefix("mean of the law: ").split()
     assert float(low) == pytest.approx(mean * VALUES[JUNE], abs=0.2)
     assert float(high) == pytest.approx(mean * VALUES[0], abs=0.5)
@@ -92,7 +92,9 @@ def test_pictures_have_what_was_sold() -> None:
     june = sorted(counts[JUNE::12])
     assert june[-1] == 48
     assert [value for value, weight in seen.counts for _ in range(weight)] == june
-    assert law.counts[-1][0] == pytest.approx(48, abs=1)
+    values, weights = zip(*law.counts)
+    at_june = np.average(values, weights=weights)
+    assert at_june == pytest.approx(mean * VALUES[JUNE], rel=1e-3)
     (own, fitted, *_) = laws_of(question, None).rows
     assert own[:4] == ["demand", "what was seen", np.mean(june), np.var(june, ddof=1)]
     assert fitted[-1] == law.counts[-1][0]
@@ -106,36 +108,81 @@ def test_pictures_have_what_was_sold() -> None:
     assert plot.lines[0].name.startswith("mean of the law: ")
 
 
-@pytest.mark.parametrize("lead", [None, 5])
-def test_what_if_is_of_the_year(lead: int | None) -> None:
-    """Of an item as it is, the base has the levels and the figures of the plan, and so has the best. Else figures are those
-    of each month."""
-    question = asked()
+def planned_by_month(question: Question) -> tuple[Answer, list[tuple[int, int]]]:
+    """Returns an answer with the levels of each month, and these."""
     assert question.season
     _, answer = made_pair(random.Random(1), "A")
-    months, levels = list[Month](), list[tuple[int, int]]()
+    months, levels = list[YearPart](), list[tuple[int, int]]()
     for stretch in question.season.year:
-        own = question.month(stretch)
+        own = question.during(stretch)
         levels.append(choice_of(own).levels)
         assert own.season
-        months.append(Month(*stretch, *levels[-1], own.season.factor))
+        months.append(YearPart(*stretch, *levels[-1], own.season.factor))
     laws = dataclasses.replace(question.laws, demand=question.season.law.table)
     chosen = dataclasses.replace(answer.chosen, point=levels[0][0], level=levels[0][1])
     answer = dataclasses.replace(
         answer, laws=laws, chosen=chosen, calendar=tuple(months)
     )
+    return answer, levels
+
+
+@pytest.mark.parametrize("lead", [None, 5])
+def test_what_if_is_of_the_year(lead: int | None) -> None:
+    """Of an item as it is, the base has the levels and the figures of the plan, and so has the best. Else figures are those
+    of each month. What is typed is of the first one, or kept all year."""
+    question = asked()
+    assert question.season
+    answer, levels = planned_by_month(question)
     found = asked_figures(summer(), answer, SETTINGS, (50, 200), lead, None)
     other, best = question, levels
     if lead:
         other = dataclasses.replace(question, lead=Law((lead,), (1,)))
-        best = [choice_of(other.month(it)).levels for it in question.season.year]
+        best = [choice_of(other.during(it)).levels for it in question.season.year]
     for name, own in (
         (CHOSEN, levels),
         (TODAY, [question.levels] * 12),
-        (TYPED, [(50, 200)] * 12),
+        (TYPED, [(50, 200), *levels[1:]]),
+        (ALL_YEAR, [(50, 200)] * 12),
         (BEST, best),
     ):
         its = found[name]
         figures = its.cost, its.fill, its.stock, its.orders
         assert figures == pytest.approx(year_by_hand(other, own), rel=1e-9)
         assert its.levels == own[0]
+
+
+def test_the_levels_that_the_plan_shows_have_its_figures() -> None:
+    """Whoever types s and S of one of twelve seasonal items, as the plan shows them, finds what the plan promises."""
+    for place in range(12):
+        shares = 0.8 + 0.4 * np.random.default_rng(place).random(53)
+        counts = np.rint((5 + 9 * place) * np.resize(VALUES, 53) * shares)
+        item = item_of(place, counts=tuple(counts.astype(int).tolist()), first=FIRST)
+        answer, levels = planned_by_month(question := question_of(item, SETTINGS))
+        figures = asked_figures(item, answer, SETTINGS, levels[0], None, None)
+        its = figures[TYPED]
+        promised = year_by_hand(question, levels)
+        assert (its.cost, its.fill, its.stock, its.orders) == pytest.approx(promised)
+        assert its.levels == answer.chosen.levels
+        assert figures[ALL_YEAR].fill < its.fill  # June sells least
+
+
+def test_picture_of_an_item_in_boxes() -> None:
+    """9,900 are within a law, and more that may come in the best month is not: counted in boxes, the item is drawn in
+    items. 99 of 100 months are at the rate of their own law: of three times the mean, not three times as far above it.
+    """
+    values = (3.0, *[9 / 11] * 11)
+    counts = tuple((3_300 * np.resize(values, 48)).astype(int).tolist())
+    seasons = Seasons("month", {"": Index(values, 0, 1, 4)})
+    settings = dataclasses.replace(SETTINGS, seasons=seasons)
+    question = question_of(item_of(counts=counts, first=FIRST), settings)
+    box = question.item.box
+    assert box > question.as_read.box == 1
+    depth: Any = SimpleNamespace(question=question, single=None)
+    plot = history_plot(depth, [f"{place}" for place in range(48)], "month")
+    mean, high = (
+        [float(it.replace(",", "")) for it in line.name.split() if it[0].isdecimal()]
+        for line in plot.lines
+    )
+    assert mean == pytest.approx([2_700, 9_900], rel=0.01)
+    above = question.all_year.figures.quantiles[0.99] * box - 3_300
+    assert 0 < high[-1] - 9_900 < 2.5 * above

@@ -10,9 +10,9 @@ import numpy as np
 import pandas as pd
 import pytest
 
-from crnplan.demand.index import MONTHS, Index
+from crnplan.demand.index import Index
 from crnplan.demand.learning import Prior
-from crnplan.plan.answer import Answer, Month
+from crnplan.plan.answer import Answer, YearPart
 from crnplan.plan.changes import since_of
 from crnplan.plan.how import NONE
 from crnplan.plan.one import plan_asked
@@ -22,13 +22,14 @@ from crnplan.read.item import Item
 from planner.tests.plan.items import alone, item_of
 
 LEAD, RECORD, SINCE, YEAR = 6, 130, 8, 52  # weeks
-WAVE = 1 + 0.5 * np.sin(2 * math.pi * np.arange(MONTHS) / MONTHS)
+PARTS = 26
+WAVE = 1 + 0.5 * np.sin(2 * math.pi * np.arange(PARTS) / PARTS)
 SEASONS = Seasons("week", {"warm": Index(tuple(WAVE.tolist()), 0.001, 1.0, 2)})
 FIRST = period_of(datetime.date(2022, 1, 3), "week")
 THURSDAYS = pd.date_range("2022-01-06", periods=RECORD + SINCE, freq="7D")
 
 
-def met_with(item: Item, calendar: Sequence[Month], start: int) -> float:
+def met_with(item: Item, calendar: Sequence[YearPart], start: int) -> float:
     """Returns the share of demand that levels by month met at once in the last weeks, from a stock on: before, each week has
     those of the same week of the coming year."""
     stock, due, met = start, [0] * (len(item.counts) + LEAD), 0
@@ -48,9 +49,9 @@ def met_with(item: Item, calendar: Sequence[Month], start: int) -> float:
 
 
 def test_levels_of_each_month_before_the_plan(program: Path) -> None:
-    """The levels of an earlier plan are in use before it too, each in its months: those of a low month alone would leave
+    """The levels of an earlier plan are in use before it too, each in its time: those of a low part of the year alone would leave
     less on hand after a high one."""
-    means = 8 * WAVE[THURSDAYS.month - 1]
+    means = 8 * WAVE[np.minimum((THURSDAYS.dayofyear - 1) // 14, PARTS - 1)]
     counts = np.random.default_rng(5).poisson(means).tolist()
     old, now = (
         item_of(counts=tuple(own), group="warm", first=FIRST, leads=(LEAD,))

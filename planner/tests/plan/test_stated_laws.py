@@ -110,7 +110,7 @@ def test_a_confidence_leaves_stated_laws_out(program: Path) -> None:
 
 def test_a_season_of_the_class_leaves_stated_laws_as_they_are(program: Path) -> None:
     """The law stays as it is, all year, and it is said."""
-    index = Index((0.5,) * 6 + (1.5,) * 6, 0.001, 1.0, 3)
+    index = Index((0.5,) * 13 + (1.5,) * 13, 0.001, 1.0, 3)
     settings = alone(every="week", seasons=Seasons("week", {"a": index}))
     in_class, other = stated(group="a"), stated(group="b")
     assert question_of(item_of(group="a"), settings).season

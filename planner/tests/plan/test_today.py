@@ -15,7 +15,7 @@ from hypothesis import given, strategies as some
 import crnplan as crn
 from crnplan.law import Law
 from crnplan.show.today_tables import OrdersToday
-from crnplan.plan.answer import Laws, Month
+from crnplan.plan.answer import Laws, YearPart
 from crnplan.plan.standing import Standing
 from crnplan.plan.today import OrderGroup, Lying, Today, by_urgency, minimums_of
 from crnplan.read.bounds import OrderBounds
@@ -44,17 +44,20 @@ def standing_of(
     s: int = 9,
     S: int = 20,
     pack: int = 1,
+    least: int | None = None,
     laws: Laws = LAWS,
     every: str = "week",
     **facts: Any,
 ) -> Standing:
     """Returns an item with a policy and laws on a Friday."""
     item, answer = made_pair(random.Random(1), facts.pop("name", "A"))
-    item = replace(item, bounds=OrderBounds(pack), **{"price": Fraction(3), **facts})
-    answer = replace(answer, laws=laws, chosen=replace(answer.chosen, point=s, level=S))
-    return Standing(
-        item, answer, OnHand(Fraction(stock), Fraction(owed)), arrivals, FRIDAY, every
+    item = replace(
+        item, bounds=OrderBounds(pack, least), **{"price": Fraction(3), **facts}
     )
+    answer = replace(answer, laws=laws, chosen=replace(answer.chosen, point=s, level=S))
+    hand = OnHand(Fraction(stock), Fraction(owed))
+    lot = item.bounds.lot
+    return Standing(item, answer, hand, arrivals, FRIDAY, every, lot=lot)
 
 
 def facts_of(item: dict[str, Any]) -> dict[str, Any]:
@@ -159,7 +162,7 @@ def test_levels_of_the_month_of_the_day(day: str, every: str, month: int) -> Non
         "month": (2026 * 12 + 10, 2026 * 12 + 11, 2027 * 12),
     }[every]
     start, middle, end = firsts
-    calendar = Month(start, middle, 11, 22, 1.0), Month(middle, end, 12, 24, 2.0)
+    calendar = YearPart(start, middle, 11, 22, 1.0), YearPart(middle, end, 12, 24, 2.0)
     standing = standing_of(every=every)
     assert standing.answer
     answer = replace(standing.answer, calendar=calendar)

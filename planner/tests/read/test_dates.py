@@ -2,6 +2,7 @@
 from __future__ import annotations
 
 import datetime
+import tomllib
 from collections.abc import Sequence
 from pathlib import Path
 from typing import Any
@@ -11,6 +12,7 @@ import pytest
 from babel.dates import format_date
 
 import crnplan as crn
+from crnplan.catalogues import stated_of
 from crnplan.errors import RefusedFaults
 from crnplan.read.cells import Unreadable
 from crnplan.read.date_forms import day_of_serial
@@ -19,7 +21,10 @@ from crnplan.read.items import Reading
 from crnplan.read.stock import read_holdings
 from planner.tests.read.books import written
 from planner.tests.read.catalogues import (
+    MASTER,
+    TODAY,
     cases_of,
+    demand_of,
     items_of,
     masters_of,
     read_text,
@@ -243,3 +248,16 @@ def test_due_dates_are_read_as_others(tmp_path: Path) -> None:
     assert due == [Day(2025, 1, 6), *TRUE_DAYS]
     (reject,) = holdings.rejects
     assert (reject.column, reject.remark.code, reject.line) == ("due", "turned", 0)
+
+
+def test_how_dates_are_read_is_stated(tmp_path: Path) -> None:
+    """found.toml says that the day comes first, as one above 12 shows, and each word once."""
+    demand = demand_of("A")
+    demand["date"] = pd.to_datetime(demand.date).dt.strftime("%d/%m/%Y")
+    demand.to_csv(tmp_path / "demand.csv", index=False)
+    tables = tmp_path / "demand.csv", masters_of(MASTER)
+    columns = {"demand.quantity": "quantity"}
+    read = crn.read_catalogue(*tables, today=TODAY, every="week", columns=columns)
+    words = tomllib.loads(stated_of(read, {}))["catalogue"]
+    assert words["written"]["demand"]["day_first"] == {"/": True}
+    assert words["every"] == "week"

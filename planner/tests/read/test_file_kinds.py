@@ -10,6 +10,8 @@ from pathlib import Path
 import openpyxl
 import pytest
 
+from crnplan.read.items import Reading
+from crnplan.read.looks import look_at
 from planner.tests.conftest import Command, write_inputs
 
 RECEIPTS = "item,ordered,received\nA,2026-01-05,2026-01-19\n"
@@ -190,3 +192,13 @@ def test_a_packed_file_is_what_its_columns_say(folder: Path, crnplan: Command) -
     told = crnplan("plan", ".", "--check")
     assert told.status == 0, told
     assert kinds_said(told.errors)["x0.csv.gz"] == read_as("demand")
+
+
+def test_rows_that_a_planner_sees(tmp_path: Path) -> None:
+    """They are the first five with something in them, below the heading and what stands above it."""
+    rows = [f"A,2026-01-0{day},{day}" for day in range(1, 8)]
+    lines = ["Export of stock,,", "item,date,quantity", rows[0], ",,", *rows[1:]]
+    (tmp_path / "above.csv").write_text("\n".join(lines), "utf-8")
+    look = look_at("demand", str(tmp_path / "above.csv"), Reading())
+    assert look.heading == ["item", "date", "quantity"]
+    assert look.rows == [row.split(",") for row in rows[:5]]

@@ -8,7 +8,7 @@ import pandas as pd
 import pytest
 
 import crnplan as crn
-from crnplan.read.marks import Condition, conditions_of, use_of
+from crnplan.read.marks import Condition, conditions_of, ticked, use_of
 from crnplan.read.items import Reading
 from crnplan.read.stock import Holdings, read_holdings
 from crnplan.catalogues import Catalogue
@@ -179,3 +179,17 @@ def test_stock_of_places(tmp_path: Path) -> None:
         holdings(tmp_path, where=("Lager=Main",))
     kept = holdings(tmp_path, where=("Lager=Main",), is_where_needed=False)
     assert on_hand(kept) == {"A": 3, "B": 12}
+
+
+@pytest.mark.parametrize(
+    "cells, said",
+    [
+        (("yes", "no"), {"yes"}),
+        (("yes", "yes"), set()),
+        (("yes", "no", "later"), set()),
+        (("1", "0"), set()),
+    ],
+)
+def test_ticked_cells(cells: tuple[str, ...], said: set[str]) -> None:
+    """A column is ticked if all of its cells say yes or no in words, and some say each."""
+    assert ticked(cells) == said

@@ -1,5 +1,4 @@
-"""Tests that no unit of a time is guessed: it stands in the heading, in the cell or in a word, or receipts of orders agree
-with one unit alone."""
+"""Tests that no unit of a time is guessed: it stands in the heading, in the cell or in a word."""
 from __future__ import annotations
 
 import tomllib
@@ -40,14 +39,6 @@ def orders_of(receipts: Receipts) -> pd.DataFrame:
     return pd.DataFrame(rows, columns=["item", "ordered", "received"])
 
 
-def read_with(leads: Mapping[str, Any], receipts: Receipts) -> crn.Catalogue:
-    """Reads items with these lead times without a unit beside these receipts."""
-    masters = masters_of(*({**BARE, "lead": lead} for lead in leads.values()))
-    return crn.read_catalogue(
-        demand_of(*leads), masters, orders_of(receipts), today=TODAY
-    )
-
-
 @pytest.fixture
 def files(tmp_path: Path) -> dict[str, Any]:
     """Returns the words by which a command checks items A and B, and those that add orders of item A."""
@@ -70,44 +61,17 @@ def test_a_time_without_a_unit_is_refused(role: str, every: str) -> None:
         assert f'units={{"items": {{"{role}": "{unit}"}}}}' in str(refused.value)
 
 
-@pytest.mark.parametrize("leads, receipts, unit, weeks", CASES["agree"])
-def test_receipts_that_agree_with_one_unit(
-    leads: dict[str, Any], receipts: Receipts, unit: str, weeks: list[int]
-) -> None:
-    """Stated 14 with receipts after 13 to 16 days are days, stated 2 are weeks. This is said, in the file of what was found
-    too."""
-    read = read_with(leads, receipts)
-    items = items_of(read)
-    assert len(items) == 2 and [*items["A"].leads][: len(weeks)] == weeks
-    said = f"lead: its numbers are {unit}s, by the receipts of 2 of 2 items"
-    assert said in " ".join(read.said)
-    assert f'lead = "lead"  # found by its name  # in {unit}\n' in read.found
-    assert tomllib.loads(read.found)["catalogue"]["units"]["items.lead"] == unit
-
-
-@pytest.mark.parametrize("leads, receipts", CASES["doubtful"])
-def test_receipts_that_agree_with_none(
-    leads: dict[str, Any], receipts: Receipts
-) -> None:
-    """Receipts that fit no unit, or several, decide nothing."""
-    with pytest.raises(crn.Refused, match="'lead' names no unit"):
-        read_with(leads, receipts)
-
-
-def test_the_unit_of_receipts_by_the_command(
+def test_receipts_say_no_unit(
     crnplan: Command, files: dict[str, Any], tmp_path: Path
 ) -> None:
-    """The command says by what the unit is known, and takes a stated one without a look at receipts."""
+    """Stated 14 is refused also beside receipts after 13 to 16 days, which may be late. A word says the unit."""
     words, orders = files.values()
     masters_of({**BARE, "lead": 14}, {**BARE, "lead": 28}).to_csv(words[2], index=False)
     receipts = {"A": [13, 14, 16], "B": [27, 28, 30]}
     orders_of(receipts).to_csv(orders[0], index=False)
-    said = crnplan(*words, *orders)
-    by = "# items.csv: column 'lead': lead: its numbers are days, by the receipts of 2 of 2 items\n"
-    assert said.status == 0 and by in said.errors
     stated = crnplan(*words, *orders, "--set", "units.items.lead=day")
-    assert "by the receipts" not in stated.errors
-    refused = crnplan(*words)
+    assert stated.status == 0
+    refused = crnplan(*words, *orders)
     advice = "say --set units.items.lead=day or --set units.items.lead=week"
     assert refused.status == 2 and advice in refused.errors
 

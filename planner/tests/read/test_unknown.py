@@ -52,6 +52,20 @@ def item_with_gaps(**changed: Any) -> Item:
     return dataclasses.replace(item, counts=tuple(counts), unknown=tuple(GAPS))
 
 
+def test_unknown_weeks_have_no_value() -> None:
+    """An item's class is by its mean over the weeks that are known: B's of 20 is above A's of 15, with no amounts of an
+    unknown week and no unknown week among those that it is divided by."""
+    demand = demand_of("A", "B").astype({"quantity": float})
+    is_of_b = demand.item == "B"
+    demand["quantity"] = np.where(is_of_b, 20, 15.0)
+    demand.loc[[5, *demand.index[is_of_b][5:18]], "quantity"] = np.nan
+    more = pd.DataFrame({"item": "A", "date": demand.date[5:6], "quantity": 200})
+    masters = masters_of(*2 * [{**MASTER, "price": "1"}])
+    words: dict[str, Any] = {"empty": "unknown", "abc": (50, 95), "today": TODAY}
+    read = crn.read_catalogue(pd.concat([demand, more]), masters, **words)
+    assert {name: it.abc for name, it in items_of(read).items()} == {"A": "B", "B": "A"}
+
+
 def test_a_week_without_a_quantity_is_unknown() -> None:
     """It counts for nothing, is said with a count, and its rows are used and named."""
     read = with_gaps()

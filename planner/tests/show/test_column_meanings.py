@@ -117,7 +117,8 @@ def lists_of() -> dict[str, dict[str, float | None]]:
     for name, (stock, owed, coming) in STOCKS.items():
         on_order = sum(items for items, _ in coming)
         facts = {"stock": stock, "on_order": on_order, "owed": owed}
-        excess = max(stock - owed + on_order - S_HIGH, 0)
+        # An order of whole packs reaches up to a pack less one above S.
+        excess = max(stock - owed + on_order - S_HIGH - PACK + 1, 0)
         lists[f"owed {name}"] = {**facts, "excess": excess, "value": PRICE * owed}
         if excess:
             weeks, value = excess / MEAN, PRICE * excess

@@ -16,7 +16,7 @@ from crnplan.curve.parts import Point
 from crnplan.demand.borrowing import fit_demand
 from crnplan.read.item import Item
 from crnplan.curve.pictures import curve_ends
-from crnplan.show.item_plots import history_plot
+from crnplan.show.item_plots import DrawnLaw, history_plot
 from crnplan.show.law_names import source_words
 from crnplan.drawing import rendering
 from crnplan.drawing.plots import UNITS, Scale, round_numbers
@@ -195,3 +195,12 @@ def test_page_allows_its_own_style_alone(tmp_path: Path) -> None:
 def test_what_is_not_there_has_a_sign() -> None:
     assert rendering.percent(None) == "-"
     assert source_words("A") == "the items of class A"
+
+
+def test_law_as_a_line() -> None:
+    """Of demands of 0, 0, 4 and 9 half are above 0, a quarter above 4 and none above 9."""
+    across, up = Scale(0, 9, ()), Scale(0, 1, ())
+    law = DrawnLaw("seen", "", [(0, 2), (4, 1), (9, 1)])
+    steps = {0: 0.5, 4: 0.25, 9: 0}
+    path = [f"H{across.at(it):g}V{up.down(steps[it]):g}" for it in steps]
+    assert law.line(across, up).path == "".join(["M0 0", *path])

@@ -4,7 +4,6 @@ from __future__ import annotations
 import re
 import xml.etree.ElementTree
 from collections.abc import Mapping
-from fractions import Fraction
 from pathlib import Path
 from typing import Any
 
@@ -13,10 +12,7 @@ import pandas as pd
 import pytest
 
 import crnplan as crn
-from crnplan.crnsim.periods import Period
-from crnplan.policies import Policy
 from crnplan.drawing.pictures import Picture, savings_picture
-from crnplan.crnsim.pictures import trajectories_picture
 from planner.tests.conftest import shared
 from planner.tests.plan.items import several, tables_of
 
@@ -27,7 +23,7 @@ WORDS: dict[str, Any] = {
     "replications": 4,
     "jobs": 1,
 }
-KINDS = "plan", "curve", "backtest", "law"
+KINDS = "plan", "curve", "backtest"
 SVG = "{http://www.w3.org/2000/svg}"
 NUMBER = r"(-?[\d.]+(?:e-?\d+)?)"
 COSTS: Any = {"setup": 45, "holding": 1, "backlog": 9, "today": (3, 9)}
@@ -54,7 +50,6 @@ def results(path: Path, program: Path) -> Mapping[str, Any]:
         "plan": crn.open_plan(path, program=program),
         "curve": crn.open_plan(path, program=program).curve(jobs=1),
         "backtest": crn.backtest(*tables(), record=52, every=4, jobs=1),
-        "law": crn.Law((0, 3, 7), (2, 5, 1)),
     }
 
 
@@ -88,25 +83,6 @@ def test_pictures(kind: str, results: Mapping[str, Any], tmp_path: Path) -> None
     assert "var(" not in picture.svg
     with pytest.raises(crn.Refused, match="No such file"):
         picture.save(tmp_path / "nowhere" / "it.svg")
-
-
-def test_a_law(results: Mapping[str, Any]) -> None:
-    """Each value has a bar as high as its chance, the greatest of which is 5/8, and the frame has these chances."""
-    law = results["law"]
-    (bars,) = paths_of(law.plot(), "line stem of-chosen")
-    assert bars == "M0 1000V600M428.6 1000V0M1000 1000V800"
-    expected = {"value": [0, 3, 7], "weight": [2, 5, 1], "chance": [0.25, 0.625, 0.125]}
-    pd.testing.assert_frame_equal(law.frame, pd.DataFrame(expected))
-    assert law.mean == Fraction(22, 8)
-
-
-def test_marks_of_a_law() -> None:
-    """Whole numbers alone are marked across, and chances in percent upwards."""
-    title, *marks, across = texts_of(crn.Law((0, 18), (1, 1)).plot())
-    chances = [mark for mark in marks if mark.endswith("%")]
-    assert "0%" in chances and all(float(it[:-1]) <= 50 for it in chances)
-    assert all(it.isdigit() for it in {*marks} - {*chances})
-    assert across == "items or periods"
 
 
 def test_savings_of_a_plan(path: Path, program: Path) -> None:
@@ -160,28 +136,3 @@ def test_methods_of_a_backtest(results: Mapping[str, Any]) -> None:
     none = crn.backtest(*tables(), record=52, every=30, jobs=1)
     with pytest.raises(crn.Refused, match="No item has a test"):
         none.plot()
-
-
-def test_position_goes_over_the_periods() -> None:
-    """From 20, it falls by 15 in period 0, and in period 1 rises by 10 at the review, before 5 are asked for. The levels
-    are 5 and 15, so 20 is the top. Nothing is owed."""
-    periods = [Period(0, 15, 5, 5), Period(10, 5, 0, 10)]
-    picture = trajectories_picture([Policy("it", 5, 15)], [periods], 20)
-    (position,) = paths_of(picture, "line of-high")
-    heights = {20: 0.0, 15: 250.0, 10: 500.0, 5: 750.0}
-    expected = [(0, 20), (0, 20), (500, 5), (500, 15), (1000, 10)]
-    assert places_of(position) == [(x, heights[height]) for x, height in expected]
-    assert paths_of(picture, "line of-mean") == ["M0 750H1000M0 250H1000"]
-    assert paths_of(picture, "line of-chosen") == ["M0 750V750H500V1000H1000"]
-    assert 'class="owed"' not in picture.svg
-    assert {"it (5, 15)", "s = 5, S = 15", "inventory position"} <= {*texts_of(picture)}
-
-
-def test_items_that_are_owed() -> None:
-    """What is below 0 has a ground of its own, which the legend names: here a fifth of the height."""
-    periods = [[Period(0, 5, 4, 4)], [Period(0, 10, -1, -1)]]
-    policies = [Policy("none", 1, 2), Policy("some", 1, 4)]
-    picture = trajectories_picture(policies, periods, 4)
-    grounds = re.findall(r'class="owed" x="0" width="1000" y="([\d.]+)"', picture.svg)
-    assert [float(y) for y in grounds] == [800]
-    assert texts_of(picture).count("items are owed") == 1

@@ -89,7 +89,9 @@ def test_cells_are_those_of_the_frames(book: Any, folder: Path) -> None:
         sheet_cells(book["Curve"])[1:]
         == cells_of(pd.DataFrame([[name, *point] for name, point in curve]))[1:]
     )
-    assert len(book["Curve"]._charts) == 1
+    (chart,) = book["Curve"]._charts
+    least = min(point.fill for name, point in curve if name)
+    assert chart.y_axis.scaling.min == pytest.approx(max(0, least - 0.04))
 
 
 def test_classes_and_meanings(book: Any, folder: Path) -> None:

@@ -2,7 +2,6 @@
 from __future__ import annotations
 
 import math
-from dataclasses import replace
 
 import numpy as np
 import pytest
@@ -36,7 +35,7 @@ def all_pairs(scenario: Scenario, most: int) -> np.recarray:
 
 def theory_within(scenario: Scenario, feasible: Feasible) -> LongRun:
     """Returns the theory of a scenario that is counted item by item, or pack by pack, with its feasible policies."""
-    shape = replace(shape_of(scenario), least_gap=feasible.gap(1) - 1)
+    shape = shape_of(scenario)
     step, exact = lattice_of(scenario, shape, 4)
     assert exact
     return theory_on(scenario, shape, step, exact, feasible)
@@ -45,7 +44,7 @@ def theory_within(scenario: Scenario, feasible: Feasible) -> LongRun:
 def kept_of(pairs: np.recarray, feasible: Feasible) -> np.recarray:
     """Returns the feasible ones of some pairs."""
     gap = pairs.S - pairs.s
-    is_kept = (gap >= feasible.least_gap) & (gap <= feasible.most_gap)
+    is_kept = gap <= feasible.most_gap
     is_kept &= (pairs.s >= feasible.least_point) & (pairs.S <= feasible.most_level)
     return pairs[is_kept]
 

@@ -12,7 +12,7 @@ import numpy as np
 import scipy.sparse
 
 from crnplan.law import Law
-from crnplan.policies import Policy
+from crnplan.policies import Lot, Policy
 from crnplan.runs import Scenario
 
 State = tuple[int, ...]  # the stock, and what arrives in the next periods
@@ -48,11 +48,14 @@ def period(
     lead: int,
     back: int,
     has_review: bool = True,
+    lot: Lot = Lot(),
 ) -> tuple[State, Counted]:
-    """Returns the state after a period, and what is counted in it."""
+    """Returns the state after a period, and what is counted in it. An order is as large as it must be, item by item."""
     stock, due = state[0] + state[1], [*state[2:], 0]
     position = stock + sum(due)
     order = policy.S - position if has_review and position < policy.s else 0
+    while order and (order < lot.least or order % lot.pack):
+        order += 1
     due[lead - 1] += order
     stock += back
     met = min(max(stock, 0), demand)
@@ -82,9 +85,10 @@ def steps_of(
     numbers, states, to, counts = {first: 0}, [first], [], []
     for place, state in states:
         for values in draws:
-            after, counted = period(state, policy, *values, place == 0)
+            after, counted = period(state, policy, *values, place == 0, scenario.lot)
             counts.append(counted)
-            if sum(after) > max(policy.S, initial) + MOST_HEIGHT:
+            high = max(policy.S, initial) + scenario.lot.pack + scenario.lot.least
+            if sum(after) > high + MOST_HEIGHT:
                 after = state
             placed = ((place + 1) % scenario.review, after)
             if placed not in numbers:

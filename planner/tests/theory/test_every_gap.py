@@ -28,7 +28,7 @@ RATES = np.array([(30, 1), (90, 1), (30, 4), (0, 1)], float)
 PRICES = 10.0 ** np.arange(-3, 5)
 CASES = np.vstack([np.repeat(RATES, len(PRICES), axis=0).T, np.tile(PRICES, 4)])
 LUMPY, SMOOTH = ((0, 1, 6), (5, 4, 1)), ((1, 2, 3, 4), (1, 2, 2, 1))
-BOUNDS = (ALL, Feasible(5, 3, 40), Feasible(0, 0, 20), Feasible(9, 30, 70))
+BOUNDS = (ALL, Feasible(3, 40), Feasible(0, 20), Feasible(30, 70))
 
 
 @functools.cache

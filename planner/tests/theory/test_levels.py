@@ -47,8 +47,8 @@ def best_of_gap(theory: LongRun, gap: int, share: float) -> tuple[int, float]:
         (1, 30, ALL),
         (3, 1000, ALL),
         (3, 30, ALL),
-        (1, 1000, Feasible(0, 3, 20)),
-        (3, 1000, Feasible(0, 26, 70)),
+        (1, 1000, Feasible(3, 20)),
+        (3, 1000, Feasible(26, 70)),
     ],
     ids=str,
 )

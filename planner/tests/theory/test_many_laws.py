@@ -15,7 +15,6 @@ from crnplan.theory.lattice import NoTheory, shape_of, theories_of, theory_on
 from crnplan.theory.many_laws import (
     LawFigures,
     Promises,
-    compute_shortfalls,
     figures_of_laws,
 )
 from crnplan.theory.suggestions import (
@@ -91,14 +90,15 @@ def laws_near(weights: Weights, count: int, seed: int) -> list[crn.Law]:
 
 
 def test_shortfalls_of_many_laws() -> None:
-    """Those of a Markov chain, under more laws than are computed at once, some with later orders. What is made for other
-    costs is taken, unless its lattice is another one."""
+    """Those of a Markov chain, some with later orders. What is made for other costs is taken, unless its lattice is another
+    one."""
     scenario = scenario_of(SPARSE, costs=COSTS)
     leads = [table({1: 2, 3: 1}), table({1: 2, 4: 1}), table([2])] * 10
     laws = [*zip(laws_near(SPARSE, 30, 1), leads)]
     own = [replace(scenario, demand=law, lead=lead) for law, lead in laws]
     theories = [theory_on(it, shape_of(it), 1, True) for it in own]
-    compute_shortfalls((it, [place % 4, 7]) for place, it in enumerate(theories))
+    for place, theory in enumerate(theories):
+        theory.lows_below([place % 4, 7])
     assert [sorted(it.shorts) for it in theories[:3]] == [[0, 7], [1, 7], []]
     for it, theory in zip(own[:8], theories):
         for gap in theory.shorts:

@@ -128,8 +128,9 @@ def test_counts_are_binomial(trials: int, most: int) -> None:
 
 @pytest.mark.usefixtures("each_way")
 def test_chances_of_renewals() -> None:
-    """They are those of closed forms: of steps of 1 or 2 as likely, of steps of 2 alone, of none, and of steps of any size,
-    each half as likely as the one before, after half of which all ends. Feller, volume I, section XIII.3.
+    """They are those of closed forms: of steps of 1 or 2 as likely, of steps of 2 alone, of none, of steps of 1 half of which
+    end all, and of steps of any size, each half as likely as the one before, after half of which all ends. Feller, volume I,
+    section XIII.3.
     """
     places = np.arange(200)
     first = np.eye(1, 200)[0]
@@ -137,6 +138,7 @@ def test_chances_of_renewals() -> None:
         (1.0, -0.5, -0.5): 2 / 3 + (-0.5) ** places / 3,
         (1.0, 0.0, -1.0): 1.0 - places % 2,
         (1.0,): first,
+        (1.0, -0.5): 0.5**places,
     }
     ending = (1.0, *(-0.25 * 0.5 ** places[:-1]))
     cases[ending] = np.concatenate([[1.0], 0.25 * 0.75 ** places[:-1]])

@@ -38,8 +38,8 @@ def check_searches(scenario: Scenario, *feasible: Feasible) -> None:
     meets most."""
     free = theory_of(scenario)
     tops = [free.counting(periods).best(SHARES[-1]).level for periods in (True, False)]
-    most = max(*tops, free.best_with_point(NUMBERS[-1]).level)
-    pairs = all_pairs(scenario, max(most, 30) + 20)
+    tops += [free.best_with_point(number).level for number in NUMBERS]
+    pairs = all_pairs(scenario, max(*tops, 30) + 20)
     for cost, _, _, point, level in pairs.tolist():
         assert free.widest(cost, point) >= free.gap_of(point, level)
     for its in (ALL, *feasible):
@@ -73,7 +73,7 @@ def check_searches(scenario: Scenario, *feasible: Feasible) -> None:
 def test_the_cheapest_of_all_pairs(
     demand: Weights, lead: Weights, costs: Costs
 ) -> None:
-    check_searches(scenario_of(demand, lead, costs=costs), Feasible(4, 2, 10))
+    check_searches(scenario_of(demand, lead, costs=costs), Feasible(2, 10))
 
 
 @EACH_SEED
@@ -96,12 +96,12 @@ def test_the_cheapest_of_feasible_pairs(seed: int) -> None:
         )
         its = []
         for _ in range(6):
-            gap, point = source.choice([0, source.randint(1, 9)]), source.randint(0, 6)
+            point = source.randint(0, 6)
             level = source.choice(
                 [10**6, source.randint(3, 24), source.randint(6, 24)]
             )
             most_gap = source.choice([10**6, source.randint(0, 9)])
-            its.append(Feasible(gap, point, level, most_gap))
+            its.append(Feasible(point, level, most_gap))
         check_searches(scenario, *its)
 
 
@@ -109,13 +109,13 @@ def test_the_cheapest_of_feasible_pairs(seed: int) -> None:
 @pytest.mark.parametrize(
     "feasible",
     [
-        Feasible(0, 1, 4),
-        Feasible(6, 2, 9),
-        Feasible(3, 0, 8),
-        Feasible(0, 0, 11),
+        Feasible(1, 4),
+        Feasible(2, 9),
+        Feasible(0, 8),
+        Feasible(0, 11),
         Feasible(most_gap=3),
         Feasible(most_gap=14),
-        Feasible(4, 0, 60, 7),
+        Feasible(0, 60, 7),
     ],
     ids=str,
 )
@@ -132,7 +132,7 @@ def test_few_feasible_pairs_on_a_coarse_lattice(
 @EACH_LEAD
 @pytest.mark.parametrize(
     "feasible",
-    [Feasible(7, 3), Feasible(0, 1, 14), Feasible(most_gap=5)],
+    [Feasible(3), Feasible(1, 14), Feasible(most_gap=5)],
     ids=str,
 )
 def test_promises_within_bounds(feasible: Feasible, lead: Weights) -> None:

@@ -4,7 +4,7 @@ ghost use Rattle.std.specs.Prelude.{◌≡◌, ◌≤◌, ⊤, false, length, Al
 ghost use Rattle.crn_stock.specs.Models.{total};
 ghost use Rattle.crn_sequential.specs.Runs.{IsCheckpointOf};
 
-use super::runs::{has_reached, have_read};
+use super::runs::has_reached;
 use super::scenarios::steady;
 use crn_run::{Checkpoint, Finished, Gate, RunFault, ThreadFault, run_all, run_plain};
 use crn_stock::Scenario;
@@ -318,56 +318,6 @@ fn numbers_and_lines_of_faults(rt: HostRuntime) -> Result<(), Fail> {
 #[test]
 fn a_refused_thread_has_no_end(rt: HostRuntime) {
     assert_eq!(rt; ThreadFault::from(SpawnError { value: () }).ended(), None);
-}
-
-// Lets policy 1 begin late, whatever the others do.
-#[derive(Drop)]
-struct Slow<'a> {
-    never: &'a AtomicBool,
-}
-
-impl<'a> Gate for Slow<'a> {
-    ghost refused = { λ _. false };
-
-    ghost asked = { λ _ _ _ _ _. ⊤ };
-
-    fn pass(&mut self, policy: u32, block: u64) -> bool {
-        if policy == 1 && block == 0 {
-            let _ = is_set_within(self.never, 20);
-        }
-        true
-    }
-}
-
-// Whether a run of 2,048 blocks comes to its end if policy 1 begins late.
-fn waits_for_slow<R: Threads + Wait + Sync>(rt: &R, alloc: Global, scenario: &Scenario) -> bool
-    requires two { length scenario.now.policies ≡ 2 }
-{
-    let never = AtomicBool::new(false);
-    let mut gates = [Slow { never: &never }, Slow { never: &never }];
-    match run_under(rt, alloc, scenario, &mut gates) {
-        Ok(finished) => have_read(finished.readers.as_slice(), 2_048),
-        Err(_) => false,
-    }
-}
-
-// The same of eight replications of 1,024 periods.
-fn long_run_waits<R: Threads + Wait + Sync>(
-    rt: &R,
-    alloc: Global,
-    slots: Slots,
-) -> Result<bool, AllocError> {
-    let scenario = steady(alloc, slots, 1_024, 8)?;
-    Ok(waits_for_slow(rt, alloc, &scenario))
-}
-
-// The ring is full long before policy 1 begins, so the producer sleeps, and must wake by itself.
-#[test]
-fn sleepers_wake(rt: HostRuntime) -> Result<(), Fail> {
-    for slots in [Slots::LeastLarge, Slots::Most] {
-        assert!(rt; long_run_waits(&rt, rt.alloc(), slots)?);
-    }
-    Ok(())
 }
 
 // Whether a run from block 2 on fails if the gate answers false for policy 1 at its first block.

@@ -27,7 +27,6 @@ def backtest(
     record: int,
     every: int,
     window: int,
-    least_gain: float | None,
     stated: Sequence[str],
     config: str | None,
     jobs: int | None,
@@ -44,7 +43,7 @@ def backtest(
     else:
         with planned_folder(Path(tables[0])) as planned:
             settings = planned.settings
-    walk = Walk(record, every, window, least_gain or settings.least_gain)
+    walk = Walk(record, every, window)
     with own_folder(out or Path(tables[0]), CATALOGUE) as folder:
         if files is not None:
             read_into(folder, files, words, jobs)

@@ -11,14 +11,14 @@ from dataclasses import dataclass
 from fractions import Fraction
 from typing import NamedTuple
 
-from ..policies import Levels
+from ..policies import Levels, Lot
 
 
 @dataclass(frozen=True)
 class Realization:
     """What happened in each period: the demand, what customers gave back, and the lead time that an order would have
     had that was placed then, in periods. One in `review` periods has a review, and that of the number `first` has one:
-    crnsim reviews in each period. Orders are rounded up to packs of so many items: those of crnsim are not.
+    crnsim reviews in each period. Orders are rounded up to what can be ordered: those of crnsim are not.
     """
 
     demands: Sequence[int]
@@ -26,7 +26,7 @@ class Realization:
     leads: Sequence[int]
     review: int = 1
     first: int = 0
-    pack: int = 1
+    lot: Lot = Lot()
 
 
 class Rates(NamedTuple):
@@ -81,7 +81,7 @@ def periods_of(
         offered = stock + due.pop(number, 0) + returned
         ordered = 0
         if position < s and (number - past.first) % past.review == 0:
-            ordered = -(-(S - position) // past.pack) * past.pack
+            ordered = past.lot.order(S - position)
             due[number + lead] += ordered
         unmet = demand - min(demand, max(offered, 0))
         net_demand = demand - returned

@@ -22,7 +22,7 @@ from . import BUILT, INSIDE
 
 VARIABLE = "CRNSIM"
 STREAMS = "input", "output", "errors"
-JOBS = 4  # runs at a time: a run itself uses several processors
+JOBS = 4  # runs at a time: a run itself may use several processors
 # Statuses with which no input is to blame.
 FAILURES = {
     STATUSES[line] for line in ("reading", "writing", "thread", "gate", "memory")
@@ -36,10 +36,11 @@ def _named(path: str | Path, how: str) -> Path:
     """Returns the absolute path of a program that is named: a path, or a plain name that is searched on PATH."""
     program = shutil.which(path)
     if program is None:
-        is_there = os.path.exists(path)
-        here = f"{path} can't be run" if is_there else f"there is no program {path}"
+        fault = f"there is no program {path}"
+        if os.path.exists(path):
+            fault = f"{path} can't be run"
         raise ProgramError(
-            f"{how}: {here}; build crnsim, or name it with {argument('program')}"
+            f"{how}: {fault}; build crnsim, or name it with {argument('program')}"
         )
     return Path(os.path.abspath(program))
 
@@ -258,12 +259,13 @@ def run_all(
         return [run_program(program, *given[0])]
     together = ProgramRuns()
     with ThreadPoolExecutor(jobs) as pool:
-        # When one has failed, the map begins no more runs.
-        def run_one(run: tuple[str, ...]) -> str:
-            return run_program(program, *run, together=together)
-
         try:
-            return list(pool.map(run_one, given))
+            # When one has failed, the map begins no more runs.
+            return [
+                *pool.map(
+                    lambda run: run_program(program, *run, together=together), given
+                )
+            ]
         except BaseException:
             together.end()
             raise

@@ -17,14 +17,12 @@ from typing import NamedTuple, overload
 from ..arguments import judged
 from .. import formats
 from ..columns import columns_of
-from ..drawing.pictures import Picture
 from ..errors import ProgramError, Refused, argument
 from ..law import Law
 from ..scenario import ScenarioData
 from ..table import DataTable, Result
 from .periods import Realization, Period, Rates, periods_of
 from .program import find_program, run_all
-from .pictures import trajectories_picture
 from .report import rows_of_run
 
 JOBS = 8  # runs at a time: each is short, so that starting it takes most of its time
@@ -83,11 +81,6 @@ class Trajectories(Result, Sequence[list[Period]]):
     def table(self) -> DataTable:
         """Returns the periods: policy, period, ordered, net_demand, stock, position, in items."""
         return table_of([policy.name for policy in self.scenario.policies], self.runs)
-
-    def plot(self) -> Picture:
-        """Draws stock, position and orders, one policy below another."""
-        scenario = self.scenario
-        return trajectories_picture(scenario.policies, self.runs, scenario.initial)
 
 
 def table_of(names: Iterable[str], shown: Iterable[Sequence[Period]]) -> DataTable:

@@ -278,7 +278,7 @@ def curve_points(items: Items) -> list[tuple[float, Point]]:
 
 def said_of(name: str, settings: Settings) -> str:
     """Returns what a point is, for a reader: that of a plan whose items are planned together is not one item by item."""
-    if name == CHOSEN and settings.together:
+    if name == CHOSEN and settings.prices:
         return TOGETHER
     return SAID[name]
 

@@ -7,6 +7,7 @@ from typing import TYPE_CHECKING
 
 import numpy as np
 
+from ..chances import Floats
 from ..arguments import judged
 from ..money import Number
 from ..read.quiet import chance_of_quiet, quiet_periods
@@ -22,6 +23,7 @@ from .order_tests import (
     tests_of,
 )
 from .outliers import LEAST_DEMANDS, outliers_of
+from .rate import as_far
 from .permutation import centred, in_order, statistics_in
 from .sample import Sample
 from .seasons import seasons_of
@@ -142,12 +144,13 @@ def remarks_of(
     first: int = 1,
     places: Sequence[int] | None = None,
     sold: Sequence[int] | None = None,
+    rates: Floats | None = None,
 ) -> tuple[Remark, ...]:
     """Returns the warnings and the notes of `check_history` on whole numbers, which takes a few milliseconds. `every`
     is their period, if they have dates, `first` the number of the first one, and `places` has those of all, from 0: by
-    default they stand one after another. If the numbers are without a season, the notes name what was `sold`.
+    default they stand one after another. If the numbers are without a season, the notes name what was `sold`, at which `rates`.
     """
-    checks = checks_of(numbers, every, first, False, places, sold)
+    checks = checks_of(numbers, every, first, False, places, sold, rates)
     return *checks.warnings, *checks.notes
 
 
@@ -158,6 +161,7 @@ def checks_of(
     in_full: bool = True,
     places: Sequence[int] | None = None,
     sold: Sequence[int] | None = None,
+    rates: Floats | None = None,
     season: int | None = None,
 ) -> Checks:
     """Returns the checks of whole numbers; in full with the p values of all tests, and with the largest demands. All else is
@@ -169,7 +173,9 @@ def checks_of(
     if places is not None:
         of_known = (season.at(places) for season in seasons)
         seasons = [season for season in of_known if season.is_whole]
-    facts = TestedHistory(numbers, seasons, every, first, known=places, sold=sold)
+    facts = TestedHistory(
+        numbers, seasons, every, first, known=places, sold=sold, rates=rates
+    )
     checks = Checks(
         len(numbers), len(numbers) - numbers.count(0), tests_of(facts, in_full)
     )
@@ -238,10 +244,14 @@ def _notes(facts: TestedHistory) -> Iterator[Remark]:
             },
         )
         return
+    if facts.sold and facts.rates is not None:
+        beside = as_far(facts.sold, facts.rates)
+        far = len(outliers_of(beside, 1))
+        if far:
+            yield Remark("far in season", _largest(replace(facts, numbers=beside), far))
+        return
     far = len(outliers_of(demands, pack))
-    if far and facts.sold:
-        yield Remark("far in season", _largest(facts, far))
-    elif far:
+    if far:
         yield Remark("far demands", {"next": demands[far], **_largest(facts, far)})
 
 

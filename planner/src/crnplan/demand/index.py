@@ -1,6 +1,6 @@
-"""Estimates the season of a class or of an item as an index for each month, and tests whether there is one.
+"""Estimates the season of a class or of an item as an index by part of the year, and tests whether there is one.
 
-The index of a month is the mean of the ratios of its demand to that of its year (Makridakis, Wheelwright and Hyndman,
+Parts are two weeks long; of records by month, months. The index of a part is the mean of the ratios of its demand to that of its year (Makridakis, Wheelwright and Hyndman,
 Forecasting: Methods and Applications, third edition, 1998, section 3/4), over the items of a class (Withycombe,
 Forecasting with combined seasonal indices, 1989). It is shrunk by its error (Miller and Williams, Shrinkage estimators
 of time series seasonal factors and their effect on forecasting accuracy, 2003). Items of a class move together, so its
@@ -9,13 +9,16 @@ each of them has to (Benjamini and Hochberg, Controlling the false discovery rat
 
 The test asks whether years are alike. What differs from one year to the next has independent Fourier coefficients, each
 about normal, whatever its spectrum (Brillinger, Time Series: Data Analysis and Theory, 1981, section 4.4). So the mean
-over years, beside the scatter between them, has an F law (Scheffé, The Analysis of Variance, 1959, section 3.1): of two
-frequencies together, as if both scattered alike. That sees far more seasons in two years than a test of each. If they do
-not, as of long waves, there are a few more false alarms. A line through the year is taken out first, as growth gives one
-to each year. The study planner/studies/seasons.py measures how often it errs.
+over years, beside the scatter between them, has an F law (Scheffé, The Analysis of Variance, 1959, section 3.1): of some
+frequencies together, as if they scattered alike. That sees far more seasons in two years than a test of each. If they do
+not, as of long waves, there are a few more false alarms. So waves once and twice a year are tested together, and by
+themselves faster ones, which show peaks of a few weeks; the lower p value counts twice (Bonferroni). A line through the
+year is taken out first, as growth gives one to each year. The study planner/studies/seasons.py measures how often it
+errs.
 """
 from __future__ import annotations
 
+import functools
 import math
 from collections.abc import Sequence
 from typing import NamedTuple
@@ -24,10 +27,9 @@ import numpy as np
 from scipy import special
 
 from ..chances import Floats, Whole
-from .seasons import CALENDAR, YEARS, months_of
+from .seasons import CALENDAR, PARTS_OF_YEAR, YEARS, parts_of
 
-MONTHS = 12
-FREQUENCIES = 2  # once and twice a year
+SLOW, FAST = 2, 6  # the most waves a year that are tested together
 # The p value up to which the test sees a season of a class (the study finds at most 2% false alarms with it), and one of
 # an item of its own.
 FALSE_ALARMS, OWN_ALARMS = 0.01, 0.001
@@ -40,7 +42,7 @@ LEAST_ITEMS = 10  # of a class: the study has no fewer
 # most 1% if it is not planned (planner/studies/dependence.py).
 LEAST_SWING = 0.07
 LEAST_INDEX = 0.2  # Lower ones would blow up what little is asked for then.
-FLAT: Floats = np.ones(MONTHS)
+FLAT = 1.0  # the index of each part without a season
 
 
 def filled(amounts: Floats, cells: Whole) -> Floats:
@@ -57,7 +59,7 @@ def filled(amounts: Floats, cells: Whole) -> Floats:
 
 class Years(NamedTuple):
     """The whole years at the end of a record, the last one first: a row for each year with the ratios of the mean demand
-    of its months, from January, to that of the year, and which share of its periods has demand. A year without demand has
+    of its parts, from January, to that of the year, and which share of its periods has demand. A year without demand has
     ratios of 0 and a share of 0."""
 
     ratios: Floats
@@ -72,27 +74,28 @@ class Years(NamedTuple):
         unknown: Sequence[int] = (),
     ) -> Years:
         """Divides a record by day, week or month, whose first period has a number, into years of 365 days, 52 weeks or 12
-        months. Periods at `unknown` places count as the others of their month, or else of their year.
+        months. Periods at `unknown` places count as the others of their part, or else of their year.
         """
         year = CALENDAR[every]["season"]
         years = len(counts) // year
         start = len(counts) - years * year
-        months = months_of(every, first, len(counts))[start:]
-        cells = np.repeat(np.arange(years), year) * MONTHS + months
+        parts = PARTS_OF_YEAR[every]
+        within = parts_of(every, first, len(counts))[start:]
+        cells = np.repeat(np.arange(years), year) * parts + within
         amounts = np.array(counts, float)
         amounts[[*unknown]] = np.nan
-        amounts = filled(filled(amounts[start:], cells), cells // MONTHS)
+        amounts = filled(filled(amounts[start:], cells), cells // parts)
         amounts = np.nan_to_num(amounts).reshape(years, year)
-        sums = np.bincount(cells, amounts.ravel(), years * MONTHS)
-        sizes = np.bincount(cells, minlength=years * MONTHS)
-        means = (sums / sizes).reshape(years, MONTHS)
+        sums = np.bincount(cells, amounts.ravel(), years * parts)
+        sizes = np.bincount(cells, minlength=years * parts)
+        means = (sums / sizes).reshape(years, parts)
         whole = amounts.mean(axis=1, keepdims=True)
         ratios = np.divide(means, whole, out=np.zeros_like(means), where=whole > 0)
         return cls(ratios[::-1], (amounts > 0).mean(axis=1)[::-1])
 
 
 class Index(NamedTuple):
-    """A season: the index of each month from January, whose mean is 1; the p value of the test that there is none; which
+    """A season: the index of each part of the year from January, whose mean is 1; the p value of the test that there is none; which
     share of what was seen is left after shrinking; and in how many years it was seen.
     """
 
@@ -113,28 +116,26 @@ def pooled(items: Sequence[Years]) -> Floats:
         if 2 * len(there) < len(items) or not weights.any():
             break
         rows.append(weights @ [item.ratios[year] for item in there] / weights.sum())
-    return np.array(rows).reshape(-1, MONTHS)
+    return np.array(rows)
 
 
-def waves() -> Floats:
-    """Returns a column for the cosine and one for the sine of each frequency over the months, without the mean and the
-    line through the year, and at right angles to each other."""
-    time = (np.arange(MONTHS) + 0.5) / MONTHS
-    columns = [FLAT, time]
-    for frequency in range(1, FREQUENCIES + 1):
+@functools.lru_cache
+def waves(parts: int) -> tuple[Floats, Floats]:
+    """Returns a column for the cosine and one for the sine of each frequency over the parts of a year, without the mean
+    and the line through the year, and at right angles to each other: of slow waves, and of fast ones.
+    """
+    time = (np.arange(parts) + 0.5) / parts
+    columns = [np.ones(parts), time]
+    for frequency in range(1, min(FAST, parts // 3) + 1):
         angle = 2 * math.pi * frequency * time
         columns += [np.cos(angle), np.sin(angle)]
     square, _ = np.linalg.qr(np.transpose(columns))
-    return np.asarray(square[:, 2:])
+    slow = 2 + 2 * SLOW
+    return square[:, 2:slow], square[:, slow:]
 
 
-WAVES = waves()
-
-
-def chance_of(far: Floats) -> float:
-    """Returns the p value of distances from what is expected, a row for each of two or more years: the chance that years
-    which have nothing in common are as much alike."""
-    parts = far @ WAVES
+def chance_in(parts: Floats) -> float:
+    """Returns the p value of what some waves have in each year."""
     years, columns = parts.shape
     mean = parts.mean(axis=0)
     alike = years * float((mean**2).sum())
@@ -145,7 +146,14 @@ def chance_of(far: Floats) -> float:
     return float(special.fdtrc(columns, degrees, (years - 1) * alike / scatter))
 
 
-def index_of(ratios: Floats, expected: Floats = FLAT) -> Index:
+def chance_of(far: Floats) -> float:
+    """Returns the p value of distances from what is expected, a row for each of two or more years: the chance that years
+    which have nothing in common are as much alike."""
+    chances = [chance_in(far @ columns) for columns in waves(far.shape[1])]
+    return min(1.0, len(chances) * min(chances))
+
+
+def index_of(ratios: Floats, expected: Floats | float = FLAT) -> Index:
     """Returns the season of ratios, a row for each of two or more years, as far as it differs from what is expected: of
     a class from 1, of an item from the season of its class. The test and the shrinking are by that difference.
     """
@@ -160,7 +168,7 @@ def index_of(ratios: Floats, expected: Floats = FLAT) -> Index:
     return Index(tuple(values.tolist()), chance_of(far), share, years)
 
 
-def differs(index: Index, expected: Floats) -> bool:
+def differs(index: Index, expected: Floats | float) -> bool:
     """Returns whether an index varies enough beside an expected one to be planned."""
     far = np.array(index.values) - expected
     return float((far**2).mean()) >= LEAST_SWING**2
@@ -208,16 +216,7 @@ def own_index(item: Years, of_class: Index | None, alarms: float = 0.0) -> Index
         alarms = max(alarms, OWN_ALARMS)
     if not alarms or not has_own(item):
         return of_class
-    expected = np.array(of_class.values) if of_class else FLAT
+    expected = np.array(of_class.values) if of_class else np.full(1, FLAT)
     index = index_of(item.ratios, expected)
     is_seen = index.chance <= alarms and differs(index, expected)
     return index if is_seen else of_class
-
-
-def flattened(
-    counts: Sequence[int], by_period: Floats, random: np.random.Generator
-) -> tuple[int, ...]:
-    """Returns counts over the index of each period, rounded up or down at random so that means stay."""
-    exact = np.array(counts, float) / by_period
-    whole: Whole = np.floor(exact + random.random(len(exact))).astype(np.int64)
-    return tuple(whole.tolist())

@@ -45,7 +45,8 @@ class TestedHistory:
     """What is checked: numbers, the seasons that they are many enough for, the number of the first period, and `every`
     (day, week or month, None without dates). The differences between parts of the seasons that are `taken` out are not
     in the numbers that are `left`, which keep the mean. `known` has the places of the numbers' periods, from 0, rising, if
-    others between them are not known. If the numbers are without a season, `sold` has those of the record.
+    others between them are not known. If the numbers are without a season, `sold` has those of the record, and `rates`
+    those at which they were.
     """
 
     numbers: Sequence[int]
@@ -55,6 +56,7 @@ class TestedHistory:
     taken: tuple[str, ...] = ()
     known: Sequence[int] | None = None
     sold: Sequence[int] | None = None
+    rates: Floats | None = None
 
     @cached_property
     def places(self) -> Whole:

@@ -3,7 +3,7 @@ from __future__ import annotations
 
 import datetime
 import functools
-from collections.abc import Sequence
+from collections.abc import Iterator, Sequence
 from typing import NamedTuple
 
 import numpy as np
@@ -20,6 +20,9 @@ CALENDAR: dict[str | None, dict[str, int]] = {
     "month": {"season": 12},
 }
 YEARS = 2  # of a season, before it is tested
+# How many parts the year has by whose index demand is planned, and how many days each of them; 0 for months.
+PARTS_OF_YEAR = {"day": 26, "week": 26, "month": 12}
+DAYS_OF_PART = {"day": 14, "week": 14, "month": 0}
 MOST_PARTS, PARTS = 7, 4  # A longer season is divided into so many parts.
 
 
@@ -50,13 +53,31 @@ class Season(NamedTuple):
         )
 
 
+def middles(every: str, first: int, size: int) -> Iterator[datetime.date]:
+    """Yields the day by which each of so many periods belongs to a part of the year: of weeks their Thursday, else the
+    first."""
+    middle = datetime.timedelta(3 if every == "week" else 0)
+    for place in range(size):
+        yield first_day(first + place, every) + middle
+
+
 @functools.lru_cache(256)
 def months_of(every: str, first: int, size: int) -> Whole:
     """Returns the month of the year of each of so many periods, 0 for January. A week belongs to the month of its
     Thursday."""
-    middle = datetime.timedelta(3 if every == "week" else 0)
-    days = (first_day(first + place, every) + middle for place in range(size))
-    return np.array([day.month - 1 for day in days], int)
+    return np.array([day.month - 1 for day in middles(every, first, size)], int)
+
+
+@functools.lru_cache(256)
+def parts_of(every: str, first: int, size: int) -> Whole:
+    """Returns the part of the year of each of so many periods, from 0 on: a month, or of days and weeks 14 days from
+    1 January on, of which the last part has one or two more. A week belongs to the part of its Thursday.
+    """
+    length = DAYS_OF_PART[every]
+    if not length:
+        return months_of(every, first, size)
+    days = [day.timetuple().tm_yday - 1 for day in middles(every, first, size)]
+    return np.minimum(np.array(days, int) // length, PARTS_OF_YEAR[every] - 1)
 
 
 @functools.lru_cache(256)

@@ -21,7 +21,7 @@ pages = Blueprint("settings", __name__)
 # The words of each part of the form.
 PARTS = {
     "money": ("currency", "setup", "holding_rate"),
-    "service": ("fill", "service", "together", "at_least", "correct"),
+    "service": ("fill", "service", "alike", "together", "at_least", "correct"),
     "time": (
         "every",
         "start",

@@ -108,20 +108,6 @@ def rows_of(names: Iterable[str]) -> list[AxisMark]:
     ]
 
 
-def law_picture(values: Sequence[int], weights: Sequence[int], mean: float) -> Picture:
-    """Draws the chance of each value of a law with these weights and this mean."""
-    total = sum(weights)
-    chances = [100 * weight / total for weight in weights]
-    up, across = Scale.of(chances, sign="%"), Scale.of(values, is_whole=True)
-    path = ""
-    for value, chance in zip(values, chances):
-        path += f"M{across.at(value):g} {UNITS}V{up.down(chance):g}"
-    title = f"Law of chances with mean {mean:,.4g}"
-    lines = [Line("", f"stem {OF_CHOSEN}", path)]
-    plot = Plot(title, title, up.heights, across.marks, "items or periods", lines)
-    return Picture.of([plot])
-
-
 def savings_picture(savings: Mapping[str, float], money: str) -> Picture:
     """Draws what the chosen policies of items save, or lose, most above, in so much money."""
     most = sorted(savings, key=lambda name: -abs(savings[name]))[:MOST_BARS]

@@ -78,21 +78,20 @@ def asked_after(
 
 
 def levels_in(before: Answer, every: str, item: Item) -> tuple[Levels, ...]:
-    """Returns the levels that an earlier plan has in each month of the year after the record of an item: one pair if they
+    """Returns the levels that an earlier plan has in each part of the year after the record of an item: one pair if they
     are always the same."""
     if not before.calendar:
         return (before.chosen.levels,)
     year = coming_year(every, item.first + len(item.counts))
-    return tuple(before.chosen_in(month.first).levels for month in year)
+    return tuple(before.chosen_in(part.first).levels for part in year)
 
 
 def stated(settings: Settings) -> dict[str, Value]:
     """Returns what is stated of how items are planned, but for the least gain: by class if it is, under both names."""
-    tree = dataclasses.asdict(settings)
-    together = tree.pop("together")
-    for name in ("least_gain", *LEARNED):
+    tree, shares = dataclasses.asdict(settings), settings.shares
+    for name in ("least_gain", "together", "fill", "service", *LEARNED):
         del tree[name]
-    return tree | {f"together {name}".strip(): together[name] for name in together}
+    return tree | {f"together {name}".strip(): shares[name] for name in shares}
 
 
 def learned_by(planned: Planned) -> tuple[object, ...]:

@@ -5,6 +5,7 @@ from dataclasses import dataclass, replace
 from fractions import Fraction
 from typing import NamedTuple
 
+from ..demand.rate import at_rate
 from ..law import Law
 from ..read.item import NEW, Item
 from ..remarks import Remark
@@ -158,9 +159,9 @@ class Answer:
     does not bind. `cost_promised` is what the chosen policy is promised to cost by the past of the catalogue, None if
     that was not tried. `correction` is None if the wanted fill is not corrected. `override` is the policy that the planner has set, None if there is none. `share` is None if the item is planned by itself.
 
-    Of an item that is planned by its season, `calendar` has the levels of the coming year, month by month. Its costs,
-    its savings and the figures of its policies are means over that year, each month as if it lasted, and its law is that
-    without the season; all else is of the first month. It is empty for others.
+    Of an item that is planned by its season, `calendar` has the levels of the coming year by its parts. Its costs,
+    its savings and the figures of its policies are means over that year, each part as if it lasted, and its law is that
+    without the season; all else is of the first part. It is empty for others.
     """
 
     verdict: str
@@ -183,37 +184,37 @@ class Answer:
     remarks: tuple[Remark, ...]
     override: Figures | None = None
     share: Share | None = None
-    calendar: tuple[Month, ...] = ()
+    calendar: tuple[YearPart, ...] = ()
     cost_promised: float | None = None
 
     @property
-    def months(self) -> list[Month]:
-        """Returns the months of the calendar, which are plain tuples where they are read from a store."""
-        return [Month(*cells) for cells in self.calendar]
+    def parts(self) -> list[YearPart]:
+        """Returns the parts of the calendar, which are plain tuples where they are read from a store."""
+        return [YearPart(*cells) for cells in self.calendar]
 
-    def month(self, period: int) -> Month | None:
-        """Returns the month of a coming period: of one after the year that of the same time of the year, and of one of
+    def part(self, period: int) -> YearPart | None:
+        """Returns the part of the year of a coming period: of one after the year that of the same time of the year, and of one of
         the record the first. None without a season."""
-        months = self.months
-        if not months:
+        parts = self.parts
+        if not parts:
             return None
-        start, end = months[0].first, months[-1].end
+        start, end = parts[0].first, parts[-1].end
         place = start + max(0, period - start) % (end - start)
-        return next(month for month in months if place < month.end)
+        return next(part for part in parts if place < part.end)
 
     def laws_in(self, period: int) -> Laws:
-        """Returns the laws of the month of a coming period."""
-        month = self.month(period)
-        if month is None:
+        """Returns the laws of the part of the year of a coming period."""
+        part = self.part(period)
+        if part is None:
             return self.laws
-        return replace(self.laws, demand=self.laws.demand.times(month.factor))
+        return replace(self.laws, demand=at_rate(self.laws.demand, part.factor))
 
     def chosen_in(self, period: int) -> Figures:
-        """Returns the chosen policy with the levels of the month of a coming period."""
-        month = self.month(period)
-        if month is None:
+        """Returns the chosen policy with the levels of the part of the year of a coming period."""
+        part = self.part(period)
+        if part is None:
             return self.chosen
-        return replace(self.chosen, point=month.s, level=month.S)
+        return replace(self.chosen, point=part.s, level=part.S)
 
     @property
     def override_cost(self) -> float | None:
@@ -226,9 +227,9 @@ class Answer:
         return self.today is not None and self.verdict in COMPARED
 
 
-class Month(NamedTuple):
-    """The levels of an item in coming periods of one month: the numbers of the first of them, and of the one after the
-    last; s and S in items; and by what the law of demand without the season is multiplied.
+class YearPart(NamedTuple):
+    """The levels of an item in coming periods of one part of the year: the numbers of the first of them, and of the one after the
+    last; s and S in items; and at which rate the law of demand without the season is.
     """
 
     first: int

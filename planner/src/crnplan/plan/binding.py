@@ -14,8 +14,7 @@ from .bounds import COVERAGE, ORDER_COVERAGE, SHELF_LIFE, feasible_of
 from .choice import Choice, best_in
 from .question import Levels, Question
 
-# The bounds of levels. A pack is none: the order is rounded up to whole packs.
-OF_LEVELS = COVERAGE, ORDER_COVERAGE, SHELF_LIFE, "order_min", "s_min"
+OF_LEVELS = COVERAGE, ORDER_COVERAGE, SHELF_LIFE, "s_min"  # the bounds of levels
 
 
 class Bound(NamedTuple):
@@ -79,12 +78,11 @@ def remarks_of_today(question: Question, choice: Choice) -> Iterator[Remark]:
         yield Remark("today stays", question.items(choice.worse) | facts)
 
 
-def remarks_of_packs(question: Question) -> Iterator[Remark]:
-    """Yields that orders are rounded up to packs, as those of theory are not, unless all are whole packs by themselves."""
-    pack, returns = question.bounds.pack, question.returns
-    sizes = *question.demand.values, *(returns.values if returns else ())
-    if question.item.box * math.gcd(*sizes) % pack:
-        yield Remark("rounded orders", {"pack": pack})
+def remarks_of_lot(question: Question) -> Iterator[Remark]:
+    """Yields to what orders are rounded up, as those of crnsim are not, unless all have such sizes by themselves."""
+    if question.theory.spare:
+        lot = question.bounds.lot
+        yield Remark("rounded orders", {"pack": lot.pack, "least": lot.order(1)})
 
 
 def remarks_of_bounds(

@@ -23,18 +23,14 @@ SHELF_LIFE = "shelf_life"
 def feasible_of(bounds: OrderBounds, box: int, demand: Law) -> Feasible:
     """Returns the policies within bounds, in boxes of so many items, as the demand of a period is.
 
-    S is never held below what the least s and the smallest order need, nor S - s below what that order needs. A pack
-    bounds no level, since the order is rounded up to whole packs.
+    S is never held below the least s. What can be ordered bounds no level: the order is rounded up to that.
     """
-    least_order = -(-(bounds.order_min or 0) // box)
-    least_point = -(-(bounds.s_min or 0) // box)
-    feasible = Feasible(max(0, least_order - 1), least_point)
+    feasible = Feasible(-(-(bounds.s_min or 0) // box))
     if bounds.order_coverage is not None:
-        most = max(math.floor(bounds.order_coverage * demand.mean), feasible.least_gap)
+        most = math.floor(bounds.order_coverage * demand.mean)
         feasible = replace(feasible, most_gap=min(most, MOST_ITEMS))
     spans = [span for span in (bounds.coverage, bounds.shelf_life) if span is not None]
     if spans:
-        least = feasible.least_point + feasible.least_gap
-        most = max(math.floor(min(spans) * demand.mean), least)
+        most = max(math.floor(min(spans) * demand.mean), feasible.least_point)
         feasible = replace(feasible, most_level=min(most, MOST_ITEMS))
     return feasible

@@ -90,7 +90,7 @@ class Planned:
             "common": self.base,
             "earlier": self.earlier,
         }
-        return {PLANNED: json.dumps(tree)}
+        return {PLANNED: json.dumps(tree, default=float)}
 
     @classmethod
     def of(cls, answers: Store[Answer]) -> Planned | None:
@@ -418,9 +418,11 @@ def planning(
         settings, learned = corrected(
             folder, answers, read, settings, learned, means, again
         )
-        if settings.together:
+        if settings.shares:
             prices = prices_of(folder, answers, read, settings, prior, means, again)
-            settings = dataclasses.replace(settings, prices=prices)
+            settings = dataclasses.replace(
+                settings, prices=prices if prices.groups else None
+            )
         base = settings.common(means.program_digest(path), prior)
         planned = Planned(settings, prior, base, earlier.digest if earlier else "")
         work = Work(

@@ -177,7 +177,8 @@ def since_of(old: ItemAnswer, now: Item, settings: Settings, stop: int) -> Since
     happened_to = {"counts": now.counts, "returns": now.returns}
     past = dataclasses.replace(item, **happened_to, unknown=(), cut=(), promoted=())
     lead = fit_lead(item.leads)
-    happened = Happened(past, lead, settings.seed_of("since", item.name), record)
+    lot, seed = settings.bounds_of(item).lot, settings.seed_of("since", item.name)
+    happened = Happened(past, lot, lead, seed, record)
     numbers = [now.first + place for place in places]
     later, before = numbers[record:], list[Levels]()
     if answer.calendar:

@@ -18,9 +18,10 @@ from ..errors import Failed
 from ..formats import MOST_ITEMS, MOST_REPLICATIONS
 from ..remarks import Remark
 from ..policies import Policy
+from ..read.bounds import OrderBounds
 from ..changing import key_words
 from ..runs import Report, Scenario
-from .answer import CHOSEN, Figures, CheckRun
+from .answer import CHOSEN, TODAY, Figures, CheckRun
 from .question import Levels, Question, Unplanned
 
 # A figure of a run is looked at again, by a larger run under another key, if chance alone puts so few so far from
@@ -134,6 +135,15 @@ def check_run(
         raise Disagreement(fault)
 
 
+def as_run(question: Question, levels: Levels) -> tuple[Question, dict[str, Figures]]:
+    """Returns a question whose orders go up to S exactly, as those of crnsim do, and figures of the policies of a run."""
+    item = dataclasses.replace(question.item, bounds=OrderBounds())
+    settings = dataclasses.replace(question.settings, order_min=None)
+    exact = dataclasses.replace(question, item=item, settings=settings)
+    asked = {TODAY: question.levels, CHOSEN: levels}
+    return exact, {name: exact.figures(it) for name, it in asked.items() if it}
+
+
 def checked_run(
     question: Question,
     levels: Levels,
@@ -144,6 +154,8 @@ def checked_run(
     Refused if the bias of the start is not known, Disagreement and ProgramError."""
     if question.item.review > 1:
         return None
+    if question.theory.spare:
+        question, figures = as_run(question, levels)
     report = scenario_of(question, levels).run(program=program)
     sample = RunSample(question, report)
     check_run(question, report, sample, figures, program)

@@ -89,12 +89,10 @@ def in_blocks(
     prior: Prior,
     planned: Callable[[Question], Sequence[Levels]],
     figure: Figure = unmet_of,
-    pack: int = 1,
 ) -> Floats:
     """Returns the sum of a figure, by default of unmet demand, under each policy of a plan, whose levels are in boxes,
     over all blocks of an item's record, of which each is planned from the others. The record comes twice, and its second
-    time counts, so that a stock and orders are there as in the long run. Orders are rounded up to packs of so many items:
-    to none where theory is tried, which does not round. Raises Refused if the item can't be planned.
+    time counts, so that a stock and orders are there as in the long run. Raises Refused if the item can't be planned.
     """
     periods = len(item.counts)
     if not any(item.counts):
@@ -107,9 +105,8 @@ def in_blocks(
         question = question_of(item.without(range(first, end)), settings, prior)
         box, random = question.item.box, np.random.default_rng(question.seed("trial"))
         leads = question.lead.draws(random, 2 * periods)
-        past = Realization(
-            2 * item.counts, 2 * returns, leads, item.review, periods, pack
-        )
+        facts = leads, item.review, periods, question.bounds.lot
+        past = Realization(2 * item.counts, 2 * returns, *facts)
         policies = [(s * box, S * box) for s, S in planned(question)]
         by_period = counted_by(policies, past, float(random.random()), figure)
         sums = sums + by_period[:, periods + first : periods + end].sum(axis=1)
@@ -238,7 +235,7 @@ class Corrections:
         ):
             if tried is not None and found is None:
                 remarks.append(Remark(code, {"items": tried, "least": LEAST_ITEMS}))
-        if not (self.aims or self.overruns or settings.together):
+        if not (self.aims or self.overruns or settings.shares):
             said = f"{self.fills or 0} items with a wanted fill rate"
             if self.costs:
                 said += f" and {self.costs} with a backlog cost"

@@ -8,6 +8,7 @@ from dataclasses import dataclass
 
 from ..demand.fitted import FittedLaw
 from ..demand.level import BlockSums, factor_of, weight_of
+from ..demand.rate import at_rate
 from ..formats import MOST_DEMAND
 from ..law import Law
 from ..read.item import NEW, Item
@@ -25,7 +26,7 @@ class AtLevel:
 
     def of(self, law: Law) -> Law:
         """Returns a law of the record as it is now."""
-        return law.times(self.factor)
+        return at_rate(law, self.factor)
 
     @property
     def remark(self) -> Remark:

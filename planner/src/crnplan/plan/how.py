@@ -45,8 +45,11 @@ LEARNED: Mapping[str, Any] = {
     "seasons": Seasons,
     "following": Following,
 }
-VERSION = 11  # Answers of others are not used again.
+VERSION = 12  # Answers of others are not used again.
 NONE, CLASS, ALL = BORROW
+# Of what all items together may leave unmet, so many times as much is unmet of a single one at most. That costs hardly any
+# stock: planner/studies/floors.py.
+MOST_TIMES = 3.0
 
 
 def parts_of(value: Any) -> dict[str, float]:
@@ -105,8 +108,8 @@ class Settings(Vocabulary):
     season: str = word(
         choice(*SEASON_WAYS),
         AUTO,
-        "Plan classes and items with a season month by month, where tests see one (auto), or all items as if there were "
-        "none.",
+        "Plan classes and items with a season by parts of the year, two weeks or a month long, where tests see one (auto), "
+        "or all items as if there were none.",
     )
     follow: str = word(
         choice(*SEASON_WAYS),
@@ -141,11 +144,22 @@ class Settings(Vocabulary):
             parts_of, "share, dict, or texts as 'A=98%'", "SHARE | CLASS=SHARE", PAIRS
         ),
         {},
-        "The share of demand by value that items without a backlog cost or `no_shortage` meet at once all together, as 95%, or those "
-        "of a class, as A=98%: by one price for what is not met, in place of a fill rate of each.",
+        "As `fill`, as 95%, or of a class, as A=98%, but of all items without a backlog cost or `no_shortage`, in place of fill rates "
+        "of their masters, and without a floor.",
     )
     at_least: float | None = word(
-        PART, help="With `together`, what each item meets at least, as 85%."
+        PART,
+        help="What each item meets at least that is planned together with others, as 85%; by default it leaves unmet at most three times "
+        "what `fill` or `service` do.",
+    )
+    alike: bool = word(
+        YES,
+        False,
+        "Each item meets by itself what `fill` or `service` want, in place of all together.",
+    )
+    fill: Fraction | None = word(SHARE, hidden=True)
+    service: Mapping[str, Fraction] = word(
+        Kind(shares_of, "", shape=PAIRS), {}, hidden=True
     )
     aims: Aims | None = None
     overruns: Overruns | None = None
@@ -165,7 +179,7 @@ class Settings(Vocabulary):
     def _check_together(self) -> None:
         """Raises Refused for words on what is wanted together that can't be meant."""
         least = self.at_least
-        if not self.together and least is not None:
+        if not self.shares and least is not None:
             raise Refused(
                 f"{argument('at_least')} is of items that are planned together",
                 f"say what share these meet by {argument('together')}",
@@ -176,7 +190,7 @@ class Settings(Vocabulary):
                 "all items",
                 "leave one out",
             )
-        if least is not None and least >= min(self.together.values()):
+        if least is not None and least >= min(self.shares.values()):
             raise Refused(
                 f"{argument('at_least', f'{least:g}')} is no less than what all items are to meet together",
                 "write a lower share",
@@ -188,7 +202,31 @@ class Settings(Vocabulary):
 
         :meta private:
         """
-        return WEIGHED if self.together else PLANNED
+        return WEIGHED if self.shares else PLANNED
+
+    @property
+    def shares(self) -> Mapping[str, float]:
+        """Returns the shares of demand by value that items meet together, by class: those of `together`, and what `fill` and
+        `service` want of items whose rows say nothing, unless each meets it by itself.
+
+        :meta private:
+        """
+        if self.alike or self.confidence is not None:
+            return self.together
+        usual = {REST: self.fill, **self.service}
+        shares = {name: float(share) for name, share in usual.items() if share}
+        return {**shares, **self.together}
+
+    @property
+    def floor(self) -> float | None:
+        """Returns what each of the items at least meets that are planned together: what is stated, or a share that costs
+        little, if nothing but `fill` and `service` is.
+
+        :meta private:
+        """
+        if self.at_least is not None or self.together or not self.shares:
+            return self.at_least
+        return max(0.0, 1 - MOST_TIMES * (1 - min(self.shares.values())))
 
     def named_group(self, item: Item) -> str | None:
         """Returns the group for which a share is wanted that would have an item, whether it has a price or not: the one
@@ -198,8 +236,10 @@ class Settings(Vocabulary):
         """
         if item.backlog is not None or item.no_shortage is not None:
             return None
-        group = item.category if item.category in self.together else REST
-        return group if group in self.together else None
+        group = item.category if item.category in self.shares else REST
+        if item.has_goal and group not in self.together:
+            return None
+        return group if group in self.shares else None
 
     def group_of(self, item: Item) -> str | None:
         """Returns the group with which an item is planned together; None if it is planned by itself.
@@ -217,7 +257,7 @@ class Settings(Vocabulary):
         learned = sha256(prior.text)
         settings = dataclasses.asdict(self)
         del settings["least_gain"]
-        return json.dumps([VERSION, program, learned, settings])
+        return json.dumps([VERSION, program, learned, settings], default=float)
 
     def bounds_of(self, item: Item) -> OrderBounds:
         """Returns the bounds of an item: those of its masters, else those of the settings.

@@ -1,7 +1,7 @@
 """Plans one item from a history and settings, as in a catalogue, and looks deeper than the answer.
 
 The facts, the question and the answer are those of a catalogue. Beside them are other policies, the doubt about the
-item's laws, how the choice moves, the stock in a run, and the coming periods from today's stock, on the same random
+item's laws, the stock in a run, and the coming periods from today's stock, on the same random
 numbers as the answer's own run.
 """
 from __future__ import annotations
@@ -33,7 +33,6 @@ from .checked_run import RunSample
 from .choice import LAWS, allowed_by, choice_of
 from .one import plan_one
 from .question import Levels, Question, question_of, terms_of
-from .what_ifs import Moves, moves_of
 
 MOST_PERIODS = 104  # of a trajectory
 
@@ -72,7 +71,7 @@ class Without(NamedTuple):
 
 class Depth:
     """What is computed of an item beside its answer, as it is asked for. `laws` is how many are drawn that its history
-    allows. Of an item that is planned by its season all is of the first month, but for `whole`, the answer to the year.
+    allows. Of an item that is planned by its season all is of the first part of the year, but for `whole`, the answer to the year.
     """
 
     def __init__(
@@ -126,7 +125,7 @@ class Depth:
         month."""
         if not self.question.learned or self.question.is_new:
             return None
-        return self.question.alone().of_month
+        return self.question.alone().as_sold
 
     @cached_property
     def allowed(self) -> list[tuple[Law, Law]]:
@@ -280,24 +279,15 @@ class Depth:
         known, places = as_read.known, as_read.known_places
         if question.is_stated or not largest_periods(known.counts):
             return None
-        left = item.without([places[rank] for rank in largest_places(known.counts)])
+        largest = {places[rank] for rank in largest_places(known.counts)}
+        left = replace(as_read, unknown=tuple(sorted({*as_read.unknown} | largest)))
         try:
-            settings = replace(question.settings, seasons=None, following=None)
-            plain = question_of(left, settings, question.prior)
-            asked = plain.moved(question.level, question.season)
+            asked = question_of(left, question.settings, question.prior)
             rare = asked.figures(choice_of(asked).levels)
         except Refused:
             return None
         boxes = round(rare.point / item.box), round(rare.level / item.box)
         return Without(rare, question.figures(boxes))
-
-    @cached_property
-    def moves(self) -> Moves:
-        """Returns how the best policy moves, and what it costs to keep the chosen one, in money. Fill rates of best
-        policies are without a confidence."""
-        settings = replace(self.question.settings, confidence=None)
-        terms = terms_of(self.question.item, self.answer.laws, settings)
-        return moves_of(terms, self.chosen, self.levels[CHOSEN])
 
     def _stock(self) -> int:
         """Returns today's stock in boxes; the initial stock of the run if that is not known."""

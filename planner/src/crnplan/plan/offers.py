@@ -1,7 +1,6 @@
 """What items that are planned together leave unmet at some prices: by theory, and on the past."""
 from __future__ import annotations
 
-import dataclasses
 import math
 from collections.abc import Mapping, Sequence
 from dataclasses import dataclass, field
@@ -28,23 +27,17 @@ MOST_TRIED, MOST_TAKEN = (
 
 @dataclass(frozen=True)
 class Asked:
-    """What is asked of the items of a group: what they leave unmet at some rising prices, and what stock of policies
-    with some rising fill rates costs to hold."""
+    """What is asked of the items of a group: what they leave unmet at some rising prices."""
 
     prices: tuple[float, ...]
-    fills: tuple[float, ...] = ()
 
 
 @dataclass(frozen=True)
 class Offer:
-    """What an item asks for a period, in units of weight, and by price what its policies leave unmet of that; and, if
-    there are fill rates, what stock costs to hold a period, in money: by price, and by fill rate.
-    """
+    """What an item asks for a period, in units of weight, and by price what its policies leave unmet of that."""
 
     asked: float
     unmet: tuple[float, ...]
-    held: tuple[float, ...] = ()
-    alone: tuple[float, ...] = ()
 
 
 @dataclass
@@ -54,17 +47,12 @@ class OfferSums:
     items: int = 0
     asked: float = 0.0
     unmet: Floats = field(default_factory=lambda: np.zeros(1))
-    held: Floats = field(default_factory=lambda: np.zeros(1))
-    alone: Floats = field(default_factory=lambda: np.zeros(1))
     draws: Draws = field(default_factory=lambda: Draws(MOST_TRIED, MOST_TAKEN))
 
     def add(self, name: str, offer: Offer) -> None:
         self.items += 1
         self.asked += offer.asked
         self.unmet = self.unmet + offer.unmet
-        if offer.alone:
-            self.held = self.held + offer.held
-            self.alone = self.alone + offer.alone
         self.draws.add(name, offer.asked)
 
     @property
@@ -79,12 +67,9 @@ class OfferSums:
 
 
 class ByPrice:
-    """The policies of an item for some prices of a unit of weight: `levels` in boxes, their stock and unmet demand. If
-    they meet less than the item meets at least, it has the cheapest policy that does. Raises NoPolicy if there is none.
-    """
+    """The policies of an item for some prices of a unit of weight: `levels` in boxes, and their unmet demand. If they meet less than the item meets at least, it has the cheapest policy that does. Raises NoPolicy if there is none."""
 
     levels: npt.NDArray[np.int64]
-    stock: Floats
     unmet: Floats
 
     def __init__(self, question: Question, prices: Sequence[float]) -> None:
@@ -97,17 +82,16 @@ class ByPrice:
             raise NoPolicy(Remark("no policy", {"fill": least}))
         tops: Whole = figures[0].astype(int)
         self.levels = np.array([tops - theory.items(gaps), tops])
-        self.stock, self.unmet = figures[1], figures[2]
+        self.unmet = figures[2]
         if least is None:
             return
         mean = float(question.demand.mean)
         is_less = self.unmet > (1 - least) * mean
         if is_less.any():
             best = theory.nearest(least)
-            known = theory.figures(*best.levels)
+            fill = theory.figures(*best.levels).fill
             self.levels[:, is_less] = np.reshape(best.levels, (2, 1))
-            self.stock[is_less] = known.stock
-            self.unmet[is_less] = (1 - known.fill) * mean
+            self.unmet[is_less] = (1 - fill) * mean
 
     @property
     def pairs(self) -> list[Levels]:
@@ -115,30 +99,15 @@ class ByPrice:
         return [(s, S) for s, S in self.levels.T.tolist()]
 
 
-def stock_with(question: Question, fill: float) -> float:
-    """Returns the mean stock in boxes of the cheapest policy with a fill rate, or of that which meets most."""
-    theory = question.theory
-    return float(theory.figures(*theory.nearest(fill).levels).stock)
-
-
 def offer_of(
     item: Item, settings: Settings, prior: Prior, asked: Mapping[str, Asked]
 ) -> Offer:
     """Returns the offer of an item by theory, as its group is asked. Raises Refused if it can't be planned."""
     question = question_of(item, settings, prior).flat
-    own = asked[question.together or ""]
-    policies = ByPrice(question, own.prices)
+    policies = ByPrice(question, asked[question.together or ""].prices)
     weight = item.box * weight_of(question.item)
-    offer = Offer(
+    return Offer(
         weight * float(question.demand.mean), tuple((weight * policies.unmet).tolist())
-    )
-    if not own.fills:
-        return offer
-    holding = question.money(question.rates["holding"])
-    return dataclasses.replace(
-        offer,
-        held=tuple((holding * policies.stock).tolist()),
-        alone=tuple(holding * stock_with(question, fill) for fill in own.fills),
     )
 
 
@@ -153,7 +122,7 @@ def past_of(
         return ByPrice(question, prices).pairs
 
     item, on = flat_of(item, settings)
-    unmet = in_blocks(item, on, prior, planned, pack=item.bounds.pack)
+    unmet = in_blocks(item, on, prior, planned)
     weight = weight_of(item) / len(item.counts)
     return Offer(weight * sum(item.counts), tuple((weight * unmet).tolist()))
 

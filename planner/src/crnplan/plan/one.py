@@ -22,7 +22,6 @@ from ..demand.fitted import FittedLaw
 from ..demand.learning import Prior
 from ..errors import Refused
 from ..spelling import worded
-from ..formats import MOST_DEMAND
 from ..read.item import ENDED, NEW, NO_DEMAND, Item
 from ..remarks import Remark, Value
 from ..policies import Policy
@@ -54,14 +53,14 @@ from .answer import (
     CheckRun,
     Share,
 )
-from .binding import bounds_of, remarks_of_bounds, remarks_of_packs, remarks_of_today
+from .binding import bounds_of, remarks_of_bounds, remarks_of_lot, remarks_of_today
 from .bounds import COVERAGES
 from .checked_run import RunSample, checked_run
 from .choice import CLOSE, Choice, allowed_by, best_by_price, choice_of, levels_of
 from .how import Settings
 from .prices import weight_of
 from .question import Levels, NoPolicy, Question, Unplanned, question_of
-from .yearly import PlannedMonth, over_year, verdict_of
+from .yearly import PlannedPart, over_year, verdict_of
 
 Result = TypeVar("Result")
 TENTHS = 0.1, 0.9  # the ends of what 80% of the allowed laws say
@@ -87,7 +86,7 @@ def beside_today(
     if today is None:
         return NEW if question.is_new else UNCOMPARED, None, None
     compared = by_theory(today, chosen)
-    if run and not question.theory.exact:
+    if run and question.by_run:
         compared = run.cost_today, run.saving, run.low, run.high
     cost, saving, low, high = compared
     if question.is_new:
@@ -151,7 +150,7 @@ def share_of(question: Question) -> Share | None:
         theory = question.theory
         best = best_by_price(question, theory, price)
         is_least = theory.figures(*best.levels).fill < least
-    wanted, weight = question.settings.together[group], weight_of(question.item)
+    wanted, weight = question.settings.shares[group], weight_of(question.item)
     price /= question.item.box
     return Share(group, wanted, weight, is_least, price)
 
@@ -186,8 +185,6 @@ def remarks_of_past(question: Question, levels: Levels) -> Iterator[Remark]:
         return
     if question.season:
         yield question.season.remark
-    elif settings.seasons and settings.seasons.is_beyond(item):
-        yield Remark("season not planned", {"most": MOST_DEMAND})
     if question.level:
         yield question.level.remark
     yield from remarks_of_cut(question)
@@ -199,12 +196,14 @@ def remarks_of_past(question: Question, levels: Levels) -> Iterator[Remark]:
         }
         yield Remark("new", facts)
         return
+    places, season = item.known_places, question.season
     yield from checked(
         item.known.counts,
         settings.every,
         item.first,
-        item.known_places,
-        question.as_read.known.counts if question.season else None,
+        places,
+        season.item.known.counts if season else None,
+        season.by_period[places] if season else None,
     )
     if question.of_record.lower:
         yield question.of_record.lower
@@ -229,7 +228,8 @@ def remarks_of(
         yield Remark("steps", {"items": theory.step * question.item.box})
     if question.rate_error > ROUGH_RATES:
         yield Remark("rounded costs", {"error": question.rate_error})
-    if question.together is None and settings.named_group(question.item) is not None:
+    group = settings.named_group(question.item)
+    if question.together is None and group in settings.together:
         yield Remark(BY_ITSELF)
     if not choice.is_promised:
         facts = {"of_periods": question.counts_periods}
@@ -261,7 +261,7 @@ def plan_one(question: Question, program: str) -> Answer:
     """
     periods = len(question.item.known.counts)
     if not any(question.demand.values):
-        raise NoPolicy(Remark("no demand without season", {"periods": periods}))
+        raise NoPolicy(Remark("no demand by law"))
     if question.is_new and not question.learned:
         raise NoPolicy(Remark("new and unlike", {"periods": periods}))
     choice = choice_of(question, True)
@@ -306,7 +306,7 @@ def answer_of(question: Question, choice: Choice, program: str) -> Answer:
     theory, figures = question.theory, figures_by_policy(question, choice)
     run, sample = checked_run(question, choice.levels, figures, program) or (None, None)
     chosen, cost, source = figures[CHOSEN], figures[CHOSEN].cost, THEORY
-    if run and not theory.exact:
+    if run and question.by_run:
         cost, source = run.cost_chosen, RUN
     verdict, cost_today, saving = beside_today(question, figures, run)
     if choice.is_bounded and verdict not in (UNCOMPARED, NEW) and not choice.worse:
@@ -336,7 +336,7 @@ def answer_of(question: Question, choice: Choice, program: str) -> Answer:
             *remarks_of(question, sample, choice),
             *remarks_of_today(question, choice),
             *remarks_of_bounds(question, choice, bounds),
-            *remarks_of_packs(question),
+            *remarks_of_lot(question),
             *remarks_of_damping(question, figures),
         ),
         figures.get(OVERRIDE),
@@ -391,17 +391,17 @@ def planned(
     prior: Prior,
     program: str,
 ) -> Answer:
-    """Returns the answer to an item, with its levels in an earlier plan: perhaps those of each month of a year."""
+    """Returns the answer to an item, with its levels in an earlier plan: perhaps those of each part of a year."""
     first = before[0] if before else None
-    question, months = question_of(item, settings, prior, first), list[PlannedMonth]()
+    question, parts = question_of(item, settings, prior, first), list[PlannedPart]()
     if question.season is None:
         return plan_one(question, program)
-    # Levels that are the same in each month are there once.
+    # Levels that are the same all year are there once.
     earlier = itertools.chain(before[1:], itertools.repeat(first))
     for stretch in question.season.year:
-        asked = question.month(stretch, next(earlier)) if months else question
-        months.append(PlannedMonth(asked, plan_one(asked, program)))
-    return over_year(months)
+        asked = question.during(stretch, next(earlier)) if parts else question
+        parts.append(PlannedPart(asked, plan_one(asked, program)))
+    return over_year(parts)
 
 
 def plan_asked(

@@ -21,14 +21,13 @@ def weight_of(item: Item) -> float:
 
 @dataclass(frozen=True)
 class Price:
-    """The `price` of a group, in money: of a unit of value that is not met at once. By theory its `items` then meet the share `promised` of their demand at once, at least the one that is `wanted`. With stock that costs as
-    much to hold, items that all have one fill rate meet the share `alone`. If the price was found on the past, `tried`
+    """The `price` of a group, in money: of a unit of value that is not met at once. By theory its `items` then meet the
+    share `promised` of their demand at once, at least the one that is `wanted`. If the price was found on the past, `tried`
     items met the share `past` of their demand with it."""
 
     wanted: float
     price: float
     promised: float
-    alone: float
     items: int
     past: float | None = None
     tried: int = 0

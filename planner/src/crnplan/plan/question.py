@@ -108,7 +108,7 @@ class Terms:
         """Returns what a box costs that is not met at once, beside orders and stock, by the price of the item's group: in
         money. None if there is none."""
         group, prices = self.together, self.settings.prices
-        if group is None or prices is None:
+        if group is None or prices is None or group not in prices.groups:
             return None
         weight = weight_of(self.item)
         return prices.groups[group].price * weight * self.item.box
@@ -124,7 +124,7 @@ class Terms:
         together with others the least one. None if none is wanted."""
         if self.together is None:
             return self.item.wanted
-        return self.settings.at_least
+        return self.settings.floor
 
     @property
     def usual(self) -> Sequence[float]:
@@ -192,7 +192,8 @@ class Terms:
             settings.replications,
             f"{settings.seed}\n{self.item.name}",
         )
-        made = dataclasses.replace(made, review=self.item.review)
+        lot = self.bounds.lot.counted_in(self.item.box)
+        made = dataclasses.replace(made, review=self.item.review, lot=lot)
         fits = (
             self.demand.values[-1] <= MOST_DEMAND
             and self.lead.values[-1] <= MOST_LEAD
@@ -226,10 +227,15 @@ class Terms:
         """
         scenario, (point, level) = self.scenario(), self.levels or (0, 0)
         feasible = feasible_of(self.bounds, self.item.box, self.demand)
-        shape = shape_of(self.for_theory(), feasible.gap(1) - 1)
+        shape = shape_of(self.for_theory())
         lattice = lattice_of(scenario, shape, level - point, MOST_GAPS)
         theory = theory_on(scenario, shape, *lattice, feasible, self.known)
         return theory.counting(self.counts_periods)
+
+    @property
+    def by_run(self) -> bool:
+        """Returns whether costs and savings are those of a run: if theory is rounded, unless orders are, as no run's are."""
+        return not (self.theory.exact or self.theory.spare)
 
     def figures(self, levels: Levels) -> Figures:
         """Returns theory's figures of a policy, whose levels are in boxes. Without a backlog cost only orders and stock
@@ -254,7 +260,7 @@ class Question(Terms):
     `expected` is what was asked for in its cut periods, as its likeliest law has it, to which its law is fitted too.
     `borrow` says from whom its law is learned, and `prior` what was learned. `rate_error` is by which share a rate is
     rounded. `before` is the policy of an earlier plan in boxes; None if there is none, or not in whole boxes. An item
-    that is planned by its season has the counts that it would have had without, and the law of a month; None for others.
+    that is planned by its season has the counts that it might have had without, and the law of a part of the year; None for others.
     One whose `level` is followed has the law of its record at that; None for others.
     """
 
@@ -311,29 +317,29 @@ class Question(Terms):
         return self.level.law if self.level else self.all_year
 
     def coming(self, law: Law) -> Law:
-        """Returns a law of the record as it is at the level and in the month of the question."""
+        """Returns a law of the record as it is at the level and in the part of the year of the question."""
         for moved in (self.level, self.season):
             law = moved.of(law) if moved else law
         return law
 
     def at(self, season: InSeason) -> Question:
-        """Returns the question of a month, by the season as it is in that."""
+        """Returns the question of a part of the year, by the season as it is in that."""
         demand = season.law.like(season.of(season.law))
         return dataclasses.replace(self, demand=demand, season=season)
 
     @property
-    def of_month(self) -> FittedLaw:
-        """Returns the law of what is sold: with a season, in the month itself."""
-        return self.season.in_month if self.season else self.demand
+    def as_sold(self) -> FittedLaw:
+        """Returns the law of what is sold: with a season, in its part of the year."""
+        return self.season.as_sold if self.season else self.demand
 
     @property
     def seen(self) -> Law:
-        """Returns the empirical law of what was sold, in boxes: with a season, in its month of each year."""
+        """Returns the empirical law of what was sold, in boxes: with a season, in its part of each year."""
         counts = self.season.sold if self.season else self.item.known.counts
         return seen_law([-(-count // self.item.box) for count in counts])
 
-    def month(self, stretch: Stretch, before: Levels | None = None) -> Question:
-        """Returns the question of another month, which perhaps has the s and S of an earlier plan."""
+    def during(self, stretch: Stretch, before: Levels | None = None) -> Question:
+        """Returns the question of another part of the year, which perhaps has the s and S of an earlier plan."""
         assert self.season is not None
         asked = self.at(self.season.at(stretch))
         return dataclasses.replace(asked, before=in_boxes(before, self.item.box))

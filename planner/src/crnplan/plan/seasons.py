@@ -1,11 +1,13 @@
-"""Plans items by the season of their class, or of their own: their counts without it, and the laws of coming months."""
+"""Plans items by the season of their class, or of their own: their counts without it, and laws of the coming year."""
 from __future__ import annotations
 
 import datetime
 import itertools
+import math
 from collections import defaultdict
 from collections.abc import Iterable, Mapping, Sequence
 from dataclasses import dataclass, field, replace
+from functools import cached_property
 from typing import NamedTuple
 
 import numpy as np
@@ -16,13 +18,12 @@ from ..demand.index import (
     Index,
     Years,
     class_index,
-    flattened,
     own_alarms,
     own_index,
 )
-from ..demand.seasons import CALENDAR, months_of
+from ..demand.rate import at_rate, without_rate
+from ..demand.seasons import CALENDAR, DAYS_OF_PART, parts_of
 from ..demand.standing_out import Amounts, HighWeeks, standing_out
-from ..formats import MOST_DEMAND
 from ..law import Law
 from ..read.dates import first_day
 from ..read.item import Item
@@ -30,7 +31,7 @@ from ..remarks import Remark, Value
 
 
 class Stretch(NamedTuple):
-    """Coming periods of one month: the numbers of the first, and of the one after the last."""
+    """Coming periods of one part of the year: the numbers of the first, and of the one after the last."""
 
     first: int
     end: int
@@ -42,11 +43,11 @@ class Stretch(NamedTuple):
 
 
 def coming_year(every: str, first: int) -> list[Stretch]:
-    """Returns the coming year from a period on, month by month. A week belongs to the month of its Thursday."""
+    """Returns the coming year from a period on, by its parts."""
     year = CALENDAR[every]["season"]
-    months = months_of(every, first, year).tolist()
+    parts = parts_of(every, first, year).tolist()
     stretches = list[Stretch]()
-    for _, periods in itertools.groupby(range(year), months.__getitem__):
+    for _, periods in itertools.groupby(range(year), parts.__getitem__):
         places = [*periods]
         stretches.append(Stretch(first + places[0], first + places[-1] + 1))
     return stretches
@@ -54,16 +55,16 @@ def coming_year(every: str, first: int) -> list[Stretch]:
 
 def by_period(every: str, item: Item, index: Index) -> Floats:
     """Returns an index by period of the record of an item."""
-    months = months_of(every, item.first, len(item.counts))
-    values: Floats = np.array(index.values)[months]
+    parts = parts_of(every, item.first, len(item.counts))
+    values: Floats = np.array(index.values)[parts]
     return values
 
 
 @dataclass(frozen=True)
 class InSeason:
     """How an item is planned by its season: the item as it was read, the index, whether that is its own, the law of
-    demand without it, the mean lead time in periods, the months of the coming year, the one for which the plan is, and of
-    how many promoted periods the index knows nothing.
+    demand at the mean index of its record, that mean, the mean lead time in periods, the parts of the coming year, the one
+    for which the plan is, and of how many promoted periods the index knows nothing.
     """
 
     item: Item
@@ -71,47 +72,60 @@ class InSeason:
     is_own: bool
     every: str
     law: FittedLaw
+    mean: float
     lead: int
     year: tuple[Stretch, ...]
     stretch: Stretch
     promoted: int = 0
 
+    @cached_property
+    def rates(self) -> Floats:
+        """Returns the rate of each part of the year, in units of the mean one of the record."""
+        return np.array(self.index.values) / self.mean
+
     @property
     def factor(self) -> float:
-        """Returns the mean index of the periods that orders of the month have to cover: its own, until the next plan, and
-        those of a lead time more."""
+        """Returns the mean rate of the periods that orders of the stretch have to cover: each its own and those of a lead
+        time more."""
         first, end = self.stretch
-        months = months_of(self.every, first, end - first + self.lead)
-        return float(np.array(self.index.values)[months].mean())
+        periods = end - first
+        parts = parts_of(self.every, first, periods + self.lead)
+        covered = np.convolve(np.ones(periods), np.ones(self.lead + 1))
+        return float(covered @ self.rates[parts] / covered.sum())
 
     def of(self, law: Law) -> Law:
-        """Returns a law of demand without the season as it is in the month."""
-        return law.times(self.factor)
+        """Returns a law of demand without the season as it is in the stretch."""
+        return at_rate(law, self.factor)
 
     def at(self, stretch: Stretch) -> InSeason:
-        """Returns the same for another month."""
+        """Returns the same for another stretch."""
         return replace(self, stretch=stretch)
 
     @property
     def by_period(self) -> Floats:
-        """Returns the index by period of the record."""
-        return by_period(self.every, self.item, self.index)
+        """Returns the rate by period of the record, in units of its mean."""
+        return by_period(self.every, self.item, self.index) / self.mean
 
     @property
-    def month(self) -> int:
-        """Returns the month of the year, 0 for January."""
-        return int(months_of(self.every, self.stretch.first, 1)[0])
+    def part(self) -> int:
+        """Returns the part of the year, from 0 on."""
+        return int(parts_of(self.every, self.stretch.first, 1)[0])
 
     @property
-    def in_month(self) -> FittedLaw:
-        """Returns the law of what is sold in the month itself."""
-        return self.law.like(self.law.times(self.index.values[self.month]))
+    def days(self) -> int:
+        """Returns how many days the parts of the year have; 0 if they are months."""
+        return DAYS_OF_PART[self.every]
+
+    @property
+    def as_sold(self) -> FittedLaw:
+        """Returns the law of what is sold in the stretch itself."""
+        return self.law.like(at_rate(self.law, self.rates[self.part]))
 
     @property
     def sold(self) -> tuple[int, ...]:
-        """Returns the known demands of the record in the same month of each year."""
-        months = months_of(self.every, self.item.first, len(self.item.counts))
-        places = (it for it in self.item.known_places if months[it] == self.month)
+        """Returns the known demands of the record in the same part of each year."""
+        parts = parts_of(self.every, self.item.first, len(self.item.counts))
+        places = (it for it in self.item.known_places if parts[it] == self.part)
         return tuple(self.item.counts[place] for place in places)
 
     @property
@@ -122,10 +136,11 @@ class InSeason:
             "is_own": self.is_own,
             "years": self.index.years,
             "promoted": self.promoted,
+            "days": self.days,
             "most": max(values),
-            "month_most": values.index(max(values)) + 1,
+            "part_most": values.index(max(values)),
             "least": min(values),
-            "month_least": values.index(min(values)) + 1,
+            "part_least": values.index(min(values)),
         }
         return Remark("season planned", facts)
 
@@ -172,51 +187,55 @@ class Seasons:
         """Returns the places of the promoted periods of an item."""
         return promotions_of(item, self.promoted.get(item.group, ()))
 
-    def seen_in(self, item: Item) -> Index | None:
+    def of_item(self, item: Item) -> Index | None:
         """Returns the index of an item: its own if that is clear, else that of its class; None without a season."""
         weeks = self.promoted.get(item.group, ())
         years = years_without(self.every, item, weeks)
         alarms = self.own.get(item.group, 0.0)
         return own_index(years, self.classes.get(item.group), alarms)
 
-    def of_item(self, item: Item) -> Index | None:
-        """Returns the index by which an item is planned; None without a season, or if amounts without it, or with another
-        month's, would be beyond the range of a law."""
-        index = self.seen_in(item)
-        if index is None:
-            return None
-        index_by_period = by_period(self.every, item, index)
-        most = float((np.array(item.counts) / index_by_period).max(initial=0))
-        return index if most * max(index.values) < MOST_DEMAND else None
-
-    def is_beyond(self, item: Item) -> bool:
-        """Returns whether an item has a season, but amounts that are too large for it."""
-        return self.of_item(item) is None and self.seen_in(item) is not None
-
     def is_own(self, item: Item, index: Index) -> bool:
         """Returns whether the index of an item is not that of its class."""
         return index is not self.classes.get(item.group)
 
     def flat(self, item: Item, index: Index, seed: int) -> Item:
-        """Returns an item with the counts that it would have had without its season, rounded at random."""
+        """Returns an item with counts that it might have had without its season, drawn at random. It is counted in boxes
+        in which the coming year is within the range of a law."""
         random = np.random.default_rng(seed)
-        counts = flattened(item.counts, by_period(self.every, item, index), random)
-        return replace(item, counts=counts)
+        rates, known = by_period(self.every, item, index), item.known_places
+        mean = mean_rate(item, rates)
+        counts = np.rint(np.array(item.counts) * mean / rates).astype(int)
+        own = [item.counts[place] for place in known]
+        counts[known] = without_rate(own, rates[known], random)
+        most = float(counts.max(initial=0)) * max(index.values) / mean
+        return replace(item, counts=tuple(counts.tolist()), coming=math.ceil(most))
 
     def in_season(
         self, item: Item, index: Index, law: FittedLaw, lead: Law
     ) -> InSeason:
-        """Returns how an item is planned for the first month after its record, by the law of its demand without the
-        season, and by that of its lead time."""
+        """Returns how an item is planned for the first part of the year after its record, by the law of its demand without
+        the season, and by that of its lead time."""
         year = coming_year(self.every, item.first + len(item.counts))
-        is_own = self.is_own(item, index)
         # A review less often than in each period has half of the time between two more to cover, in the mean.
         periods = round(float(lead.mean) + (item.review - 1) / 2)
-        promoted = len(self.promotions(item))
-        months = tuple(year), year[0]
         return InSeason(
-            item, index, is_own, self.every, law, periods, *months, promoted
+            item,
+            index,
+            self.is_own(item, index),
+            self.every,
+            law,
+            mean_rate(item, by_period(self.every, item, index)),
+            periods,
+            tuple(year),
+            year[0],
+            len(self.promotions(item)),
         )
+
+
+def mean_rate(item: Item, rates: Floats) -> float:
+    """Returns the mean of rates of the periods of a record over those that are known; 1 if none is."""
+    known = item.known_places
+    return float(rates[known].mean()) if known else 1.0
 
 
 def amounts_of(item: Item) -> Amounts:

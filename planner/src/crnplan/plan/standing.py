@@ -17,6 +17,7 @@ from fractions import Fraction
 from functools import cached_property
 
 from ..law import Law
+from ..policies import Lot
 from ..read.columns import DAYS
 from ..read.dates import period_of
 from ..read.item import PHASE_OUT, Item
@@ -28,6 +29,7 @@ from .answer import Answer, Laws
 from .risk import Risk, demands_of, items_of
 
 MOST_DAYS = 36_525  # from today to a latest date
+YEAR_WEEKS = 52  # of demand, from which on it is said that an order has more
 Worth = Fraction | None  # None if an item has no price
 
 
@@ -35,7 +37,7 @@ Worth = Fraction | None  # None if an item has no price
 class Standing:
     """An item of a plan on a day, of a catalogue whose period is `every`. Amounts are in items. One that is phased out has
     no answer: what is owed of it is ordered. Nor needs one whose planner has set levels. If there is a `quantity`, that
-    is ordered, whatever the plan says.
+    is ordered, whatever the plan says. `lot` is what can be ordered of it.
     """
 
     item: Item
@@ -45,6 +47,7 @@ class Standing:
     day: Day
     every: str
     quantity: Quantity | None = None
+    lot: Lot = Lot()
 
     @property
     def is_planned(self) -> bool:
@@ -119,8 +122,11 @@ class Standing:
 
     @cached_property
     def above(self) -> Fraction:
-        """Returns what stands above S; 0 if nothing does, or there is no S."""
-        return max(-self.to_level, NONE) if self.is_planned else NONE
+        """Returns what stands above all that an order up to S reaches; 0 if nothing does, or there is no S."""
+        if not self.is_planned:
+            return NONE
+        s, S = self.levels
+        return max(-self.to_level - self.lot.most_above(S - s), NONE)
 
     @cached_property
     def excess(self) -> Worth:
@@ -129,9 +135,8 @@ class Standing:
 
     @property
     def up_to_level(self) -> int:
-        """Returns an order up to S in whole packs."""
-        pack = self.item.bounds.pack
-        return math.ceil(self.to_level / pack) * pack
+        """Returns an order up to S."""
+        return self.lot.order(self.to_level)
 
     @property
     def planned(self) -> int:
@@ -140,13 +145,13 @@ class Standing:
 
     @property
     def placed(self) -> int:
-        """Returns the planner's quantity, else an order up to S in whole packs."""
+        """Returns the planner's quantity, else an order up to S."""
         return self.up_to_level if self.quantity is None else self.quantity.items
 
     @property
     def packs(self) -> int:
         """Returns the packs of that order."""
-        return self.placed // self.item.bounds.pack
+        return self.placed // self.lot.pack
 
     @property
     def is_changed(self) -> bool:
@@ -159,7 +164,7 @@ class Standing:
 
     @property
     def placed_worth(self) -> Worth:
-        """Returns what its order in whole packs is worth."""
+        """Returns what its order is worth."""
         return self.worth(self.placed)
 
     @cached_property
@@ -278,9 +283,9 @@ class Standing:
                 Remark("by the plan", {"planned": self.planned, "reason": reason})
             )
         if not self.is_changed and self.placed != self.to_level:
-            reasons.append(
-                Remark(
-                    "whole packs", {"packs": self.packs, "pack": self.item.bounds.pack}
-                )
-            )
+            lot = {"pack": self.lot.pack, "least": self.lot.order(1)}
+            reasons.append(Remark("rounded up", {"placed": self.placed, **lot}))
+        weeks = self.weeks_of(Fraction(self.placed))
+        if weeks and weeks > YEAR_WEEKS:
+            reasons.append(Remark("more than a year", {"weeks": weeks}))
         return reasons

@@ -341,10 +341,15 @@ class _Sorted:
     """The items of a plan on a day, each where it belongs by what it has and by its answer."""
 
     def __init__(
-        self, holdings: Holdings, day: Day, every: str, known: dict[str, Standing]
+        self,
+        holdings: Holdings,
+        day: Day,
+        folder: PlannedFolder,
+        known: dict[str, Standing],
     ) -> None:
         """Takes what items were known to stand at, which it keeps up to date."""
-        self.holdings, self.day, self.every = holdings, day, every
+        self.holdings, self.day, self.every = holdings, day, folder.every
+        self.settings = folder.settings
         self.known = known
         self.items, self.standings = list[Item](), list[Standing]()
         self.unknown = list[tuple[Item, Remark]]()
@@ -379,7 +384,14 @@ class _Sorted:
         planned = answer if isinstance(answer, Answer) else None
         arrivals = self.holdings.arrivals.get(item.name, ())
         standing = Standing(
-            item, planned, hand, arrivals, self.day, self.every, quantity
+            item,
+            planned,
+            hand,
+            arrivals,
+            self.day,
+            self.every,
+            quantity,
+            self.settings.bounds_of(item).lot,
         )
         if self.known.get(item.name) == standing:
             standing = self.known[item.name]  # with what was computed of it
@@ -424,7 +436,7 @@ class Days:
         stock, that of the masters counts. Raises Refused if no stock is known, and as `read_holdings` does.
         """
         holdings = self.holdings(tables)
-        found = _Sorted(holdings, day, self.folder.every, self.known)
+        found = _Sorted(holdings, day, self.folder, self.known)
         for item, answer in self.decided:
             found.add(item, answer)
         if holdings.on_hand is None and not found.has_stock:

@@ -42,10 +42,6 @@ GRID: Floats = 10.0 ** (np.arange(-16, 57) / 8)
 FINE = 32  # prices between two of these, which are 0.9% apart
 MORE = 24  # of these, above the one by theory, are tried on the past
 DIGITS = 4  # of a price
-# What may be left unmet of each item, times what may be of all together: for the one fill rate with the same stock.
-TIMES = (8.0, 4.0, 2.0, 1.4, 1.0, 0.7)
-# Eight times what may be left unmet may be more than all.
-MOST_UNMET = 0.9
 
 
 class OnPast(NamedTuple):
@@ -80,7 +76,16 @@ def members_of(
     weigh."""
     counts = Counter[bool]()
     # What decides with which others an item is planned: its demand need not be read.
-    fields = "name", "holding", "backlog", "no_shortage", "price", "category", "past"
+    fields = (
+        "name",
+        "holding",
+        "backlog",
+        "no_shortage",
+        "price",
+        "category",
+        "has_goal",
+        "past",
+    )
     for cells in read.values(*fields):
         facts = dict(zip(fields, cells))
         item = Item(counts=(), leads=(), levels=None, setup=Fraction(0), **facts)
@@ -90,7 +95,7 @@ def members_of(
         counts[group is not None] += 1
         if group is not None:
             yield item.name, group, float(item.holding) / weight_of(item)
-    if counts[False] > counts[True]:
+    if settings.together and counts[False] > counts[True]:
         raise Refused(
             f"{counts[False]:,} of {counts.total():,} items that are to be planned together have no price, by which "
             "they would weigh",
@@ -100,7 +105,7 @@ def members_of(
 
 def wants_aims(read: Catalogued, settings: Settings) -> bool:
     """Returns whether some item is to have a fill rate of its own, which a correction corrects."""
-    if not settings.together or settings.at_least is not None:
+    if not settings.shares or settings.floor is not None:
         return True
     members = {name for name, *_ in members_of(read, settings)}
     return any(
@@ -149,7 +154,7 @@ class Finding:
 
     def stated(self, group: str) -> str:
         """Returns the word that wants a share of a group."""
-        share = f"{self.settings.together[group]:g}"
+        share = f"{self.settings.shares[group]:g}"
         return argument("together", f"{group}={share}" if group else share)
 
     def offers(
@@ -173,14 +178,16 @@ class Finding:
         )
 
     def sums(self, asked: Mapping[str, Asked], kept: str) -> dict[str, OfferSums]:
-        """Returns the sums of the offers of all groups by theory. Raises Refused if a group has none."""
+        """Returns the sums of the offers of groups by theory, of those that have some. Raises Refused for a named group
+        that has none."""
         sums = {group: OfferSums() for group in asked}
-        for name, offer in self.offers(asked, kept, offer_of, self.groups):
-            sums[self.groups[name]].add(name, offer)
-        for group, some in sums.items():
-            if not some.asked:
+        names = {name: group for name, group in self.groups.items() if group in asked}
+        for name, offer in self.offers(asked, kept, offer_of, names):
+            sums[names[name]].add(name, offer)
+        for group in self.settings.together.keys() & asked.keys():
+            if not sums[group].asked:
                 raise Refused(f"{self.stated(group)}: none of its items can be planned")
-        return sums
+        return {group: some for group, some in sums.items() if some.asked}
 
     def prices(self) -> Prices:
         """Returns the prices of all groups. Raises Refused if a share is not met at any price."""
@@ -193,13 +200,11 @@ class Finding:
             past = self.on_past(coarse, grids, places)
         asked = dict[str, Asked]()
         for group, place in places.items():
-            unmet = 1 - self.settings.together[group]
-            fills = tuple(1 - min(MOST_UNMET, times * unmet) for times in TIMES)
             low, high = grids[group][max(place - 1, 0)], grids[group][place]
             prices = {*rounded(np.geomspace(low, high, FINE + 1))}
             if group in past:
-                prices.add(past[group].price(self.settings.together[group]))
-            asked[group] = Asked(tuple(sorted(prices)), fills)
+                prices.add(past[group].price(self.settings.shares[group]))
+            asked[group] = Asked(tuple(sorted(prices)))
         finer = self.sums(asked, in_finer)
         return Prices(
             {
@@ -209,9 +214,12 @@ class Finding:
         )
 
     def place_of(self, group: str, sums: OfferSums) -> int:
-        """Returns the place of the first price at which enough is met. Raises Refused if there is none."""
-        places = np.flatnonzero(sums.met >= self.settings.together[group])
+        """Returns the place of the first price at which enough is met; if there is none, the last one of a group that is
+        not named. Raises Refused for one that is."""
+        places = np.flatnonzero(sums.met >= self.settings.shares[group])
         if not len(places):
+            if group not in self.settings.together:
+                return len(sums.met) - 1
             raise Refused(
                 f"{self.stated(group)}: within their bounds its items meet {sums.met.max():.4%} together at most",
                 "write a lower share",
@@ -239,6 +247,8 @@ class Finding:
         for group, some in drawn.items():
             own = {name: tried[name] for name in some.names if name in tried}
             if len(own) < LEAST_ITEMS:
+                if group not in self.settings.together:
+                    continue
                 raise Refused(
                     f"{self.stated(group)}: {len(own)} items can be tried on their past, and a correction needs "
                     f"{LEAST_ITEMS}",
@@ -262,7 +272,7 @@ class Finding:
         self, group: str, sums: OfferSums, asked: Asked, past: OnPast | None
     ) -> Price:
         """Returns the price of a group by the sums at finer prices, but no less than that of the past."""
-        wanted, place = self.settings.together[group], self.place_of(group, sums)
+        wanted, place = self.settings.shares[group], self.place_of(group, sums)
         if past:
             place = max(place, asked.prices.index(past.price(wanted)))
         price = asked.prices[place]
@@ -270,18 +280,10 @@ class Finding:
             wanted,
             price,
             float(sums.met[place]),
-            fill_with(float(sums.held[place]), asked.fills, sums.alone),
             sums.items,
             past.share(price) if past else None,
             past.tried if past else 0,
         )
-
-
-def fill_with(held: float, fills: tuple[float, ...], by_fill: Floats) -> float:
-    """Returns the one fill rate of all items whose stock costs so much to hold: between some by the logarithm of what is
-    unmet, of which the stock costs as much as `by_fill` says."""
-    rising = np.maximum.accumulate(by_fill)
-    return -math.expm1(float(np.interp(held, rising, np.log1p(-np.array(fills)))))
 
 
 def settled(settings: Settings) -> Settings:

@@ -1,6 +1,6 @@
-"""Says what the plan of an item by its season comes to over a year: the mean of its months, each as if it lasted.
+"""Says what the plan of an item by its season comes to over a year: the mean of its parts, each as if it lasted.
 
-That is an approximation: what a month leaves on hand, or on order, the next one begins with.
+That is an approximation: what a part leaves on hand, or on order, the next one begins with.
 """
 from __future__ import annotations
 
@@ -24,7 +24,7 @@ from .answer import (
     UNDECIDED,
     Answer,
     Figures,
-    Month,
+    YearPart,
     CheckRun,
 )
 from .choice import CLOSE
@@ -52,8 +52,8 @@ def verdict_of(
     return DEARER if high is not None and high < 0 else UNDECIDED
 
 
-class PlannedMonth(NamedTuple):
-    """A month of the coming year: its question, and the answer to that."""
+class PlannedPart(NamedTuple):
+    """A part of the coming year: its question, and the answer to that."""
 
     question: Question
     answer: Answer
@@ -65,16 +65,16 @@ class PlannedMonth(NamedTuple):
         return row.end - row.first
 
     @property
-    def row(self) -> Month:
-        """Returns the month as a calendar has it."""
+    def row(self) -> YearPart:
+        """Returns the part as a calendar has it."""
         season = self.question.season
         assert season is not None
-        return Month(*season.stretch, *self.answer.chosen.levels, season.factor)
+        return YearPart(*season.stretch, *self.answer.chosen.levels, season.factor)
 
 
 def mean_of(figures: Sequence[Figures], periods: Floats, asked: Floats) -> Figures:
-    """Returns the mean of the figures of some months, with the levels of the first: of the share that is met at once by
-    what is asked for in each month, else by its periods."""
+    """Returns the mean of the figures of some parts of a year, with the levels of the first: of the share that is met at
+    once by what is asked for in each, else by its periods."""
     means = dict[str, float]()
     for part in ("cost", "short", "stock", "orders", "fill"):
         weights = asked if part == "fill" else periods
@@ -84,24 +84,24 @@ def mean_of(figures: Sequence[Figures], periods: Floats, asked: Floats) -> Figur
 
 
 class Year:
-    """The months of a year, and means over them."""
+    """The parts of a year, and means over them."""
 
-    def __init__(self, months: Sequence[PlannedMonth]) -> None:
-        self.months = months
-        self.answers = [month.answer for month in months]
-        self.periods = np.array([month.periods for month in months], float)
-        means = [float(month.question.demand.mean) for month in months]
+    def __init__(self, parts: Sequence[PlannedPart]) -> None:
+        self.parts = parts
+        self.answers = [part.answer for part in parts]
+        self.periods = np.array([part.periods for part in parts], float)
+        means = [float(part.question.demand.mean) for part in parts]
         self.asked = self.periods * means
 
     def mean(self, values: Iterable[float | None]) -> float | None:
-        """Returns the mean of a value by month; None if it is None in one."""
+        """Returns the mean of a value by part; None if it is None in one."""
         known = [value for value in values if value is not None]
-        if len(known) < len(self.months):
+        if len(known) < len(self.parts):
             return None
         return float(self.periods @ known / self.periods.sum())
 
     def mean_figures(self, name: str) -> Figures | None:
-        """Returns the mean of the figures of a policy: see `mean_of`. None without the policy in the first month; in
+        """Returns the mean of the figures of a policy: see `mean_of`. None without the policy in the first part; in
         others another one takes its place."""
         if getattr(self.answers[0], name) is None:
             return None
@@ -112,7 +112,7 @@ class Year:
 
     @property
     def run(self) -> CheckRun | None:
-        """Returns the run of the first month with the mean costs and savings of the year; None without runs. The runs of all months are on
+        """Returns the run of the first part with the mean costs and savings of the year; None without runs. The runs of all parts are on
         the same random numbers, so their errors and intervals are added as if they were one.
         """
         runs = [answer.run for answer in self.answers if answer.run]
@@ -126,7 +126,7 @@ class Year:
 
     def verdict(self, answer: Answer) -> str:
         """Returns the verdict on a year with such means."""
-        verdicts = {month.verdict for month in self.answers}
+        verdicts = {answer.verdict for answer in self.answers}
         for verdict in (UNCOMPARED, NEW, BOUNDED):
             if verdict in verdicts:
                 return verdict
@@ -138,14 +138,14 @@ class Year:
         high: float | None = answer.saving + near
         if answer.run and answer.source != THEORY:
             low, high = answer.run.low, answer.run.high
-        question = self.months[0].question
+        question = self.parts[0].question
         return verdict_of(question, answer.today, answer.saving, low, high)
 
 
-def over_year(months: Sequence[PlannedMonth]) -> Answer:
-    """Returns the answer to the first month of an item that is planned by its season, with means of the year in place of
-    the figures of that month, and with the calendar of levels."""
-    year, (question, first) = Year(months), months[0]
+def over_year(parts: Sequence[PlannedPart]) -> Answer:
+    """Returns the answer to the first part of the year of an item that is planned by its season, with means of the year in
+    place of the figures of that part, and with the calendar of levels."""
+    year, (question, first) = Year(parts), parts[0]
     law = question.all_year
     chosen = year.mean_figures("chosen")
     cost = year.mean(answer.cost_chosen for answer in year.answers)
@@ -175,7 +175,7 @@ def over_year(months: Sequence[PlannedMonth]) -> Answer:
         else None,
         correction=correction,
         run=year.run,
-        calendar=tuple(month.row for month in months),
+        calendar=tuple(part.row for part in parts),
         cost_promised=year.mean(one.cost_promised for one in year.answers),
     )
     return dataclasses.replace(answer, verdict=year.verdict(answer))

@@ -4,6 +4,8 @@ from __future__ import annotations
 from dataclasses import dataclass
 from fractions import Fraction
 
+from ..policies import Lot
+
 
 @dataclass(frozen=True)
 class OrderBounds:
@@ -20,3 +22,8 @@ class OrderBounds:
     coverage: Fraction | None = None
     shelf_life: Fraction | None = None
     order_coverage: Fraction | None = None
+
+    @property
+    def lot(self) -> Lot:
+        """Returns what can be ordered."""
+        return Lot(self.pack, self.order_min or 0)

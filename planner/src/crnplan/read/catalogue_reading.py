@@ -43,7 +43,7 @@ from .parts import (
     read_parts,
 )
 from .repeated import files_within, zeros_apart
-from .time_units import settle_times
+from .time_units import refuse_bare_times
 from .several import open_tables
 from .successors import succeeded
 from .configuration import told_of
@@ -284,7 +284,7 @@ def read_into(
         with Means(1 if parts == 1 else jobs).workers() as workers:
             filed = read_tables(sheets, workers, room, parts, sizes)
             whole = WholeTables.of(filed, words)
-            settled = settle_times(filed, whole, parts)
+            refuse_bare_times(filed, whole)
             read = read_parts(filed, whole, words, workers, room, parts)
         if words.twice is None:
             repeated = [*files_within(sheets, (part.shared for part in read))]
@@ -296,7 +296,7 @@ def read_into(
         facts = facts_of(filed, whole, read, words)
         facts["controls"] = tree_of(controls)
         facts["counts"] = counts_in(filed, read, controls, writer.pasts())
-        said = said_of(filed, whole, settled, facts["sources"])
+        said = said_of(filed, whole, facts["sources"])
         facts["said"] = [fault.message for fault in said]
         return writer.finish(facts)
 
@@ -335,7 +335,6 @@ def facts_of(
 def said_of(
     tables: Mapping[str, FiledTable],
     whole: WholeTables,
-    settled: Iterable[Remark],
     sources: Mapping[str, Mapping[str, int]],
 ) -> Iterator[Fault]:
     """Yields what is to be said of tables that were read: how lead times were read, also that they are those of receipts, of
@@ -343,8 +342,6 @@ def said_of(
     """
     every = whole.record.every
     masters = tables["items"].sheet
-    for remark in settled:
-        yield Fault(remark, masters.file_name)
     if "orders" in tables and "lead" not in masters.columns:
         items = sources.get("lead", {}).get(ORDERS, 0)
         yield Fault(Remark("leads of receipts", {"items": items}), masters.file_name)

@@ -112,7 +112,9 @@ class Defaults(Vocabulary):
         help="What holding costs a year, as 20% of the price, for items whose masters say no holding cost.",
     )
     fill: Fraction | None = word(
-        SHARE, help="The wanted fill rate of items whose masters say none, as 97%."
+        SHARE,
+        help="The share of demand that items whose masters say none meet at once, as 97%: all together, by value and at one price, "
+        "with a floor for single items. Without a price an item meets it by itself.",
     )
     no_shortage: Fraction | None = word(
         SHARE,
@@ -135,7 +137,7 @@ class Defaults(Vocabulary):
     service: Mapping[str, Fraction] = word(
         by_name(share_of, "dict, or texts as 'A=98%'", "CLASS=SHARE"),
         {},
-        "The wanted fill rate of a class, as A=98%, which counts before `fill`.",
+        "The share that items of a class meet so, as A=98%, which counts before `fill`.",
     )
     currency: str | None = word(
         Kind(currency_of, "str", "CODE"),

@@ -68,14 +68,15 @@ class Item:
     from 0, of the periods whose demand is not known: their counts are what was seen. All that fits, tests or sums demand
     takes `known`. `cut` has those of them in which an item was out of stock: at least their counts were asked for.
     `promoted` has the places of the periods with a promotion. Their demand counts, but no season is learned from it. The
-    item is reviewed once in `review` periods.
+    item is reviewed once in `review` periods. `coming` is the greatest demand of a coming period that its season lets
+    expect, 0 without one.
 
     What follows is no part of the plan: `stock` is today's, `price` the money that an item of stock is worth,
     `supplier_min` the money that an order of all items of the `supplier` comes to at least, `first` the number of the
     first period, `line` and `rows` are the line of the master and the rows of demand. `abc` is the class by the value
     of demand, empty without a price, and `category` the class that is shown: `group`, or `abc` if no item of the
-    catalogue has a class. `status` is what the master says of it, perhaps empty, `predecessor` the item whose demand it
-    takes, if it succeeds one, and `successor` the item that takes its own. `receipts` are the days that its received orders took, and `stated` those of its
+    catalogue has a class. `has_goal` says that its own row states what is wanted of it. `status` is what the master says
+    of it, perhaps empty, `predecessor` the item whose demand it takes, if it succeeds one, and `successor` the item that takes its own. `receipts` are the days that its received orders took, and `stated` those of its
     master, in the mean, None if it states none.
     """
 
@@ -106,6 +107,7 @@ class Item:
     supplier_min: Fraction | None = None
     abc: str = ""
     category: str = ""
+    has_goal: bool = False
     status: str = ""
     predecessor: str = ""
     successor: str = ""
@@ -115,6 +117,7 @@ class Item:
     receipts: tuple[int, ...] = ()
     stated: Fraction | None = None
     remarks: tuple[Remark, ...] = ()
+    coming: int = 0
 
     @cached_property
     def box(self) -> int:
@@ -122,6 +125,7 @@ class Item:
         known = self.known
         demands = self.law.values if self.law else (*known.counts, *self.least)
         most = max((*demands, *known.returns), default=0)
+        most = max(most, self.coming)
         return max(1, -(-most // MOST_DEMAND))
 
     @property
@@ -194,4 +198,4 @@ def overridden(item: Item, override: Override | None) -> Item:
 PLANNED: tuple[str, ...] = columns_of(Item).names[
     : columns_of(Item).names.index("stock")
 ]
-WEIGHED = (*PLANNED, "price", "category")
+WEIGHED = (*PLANNED, "price", "category", "has_goal")

@@ -232,6 +232,7 @@ class Masters:
             supplier=read["supplier"] or "",
             supplier_min=read["supplier_min"],
             category=group,
+            has_goal=goals.sources.get("fill") == MASTERS,
             status=status,
             predecessor=other * (status == SUCCESSOR),
             successor=other * (status == REPLACED),

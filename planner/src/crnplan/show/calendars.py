@@ -1,4 +1,4 @@
-"""The table of levels of items that are planned by their season: month by month for the coming year."""
+"""The table of levels of items that are planned by their season: by parts of the coming year."""
 from __future__ import annotations
 
 import datetime
@@ -6,7 +6,7 @@ from collections.abc import Iterator
 from typing import TYPE_CHECKING, NamedTuple
 
 from ..columns import columns_of
-from ..plan.answer import Answer, Month
+from ..plan.answer import Answer, YearPart
 from ..plan.seasons import Stretch
 from ..table import DataTable
 
@@ -16,42 +16,42 @@ if TYPE_CHECKING:
 LEVELS = "levels.csv"
 
 
-class ItemMonth(NamedTuple):
-    """A month of an item."""
+class ItemPart(NamedTuple):
+    """A part of the year of an item."""
 
     item: str
-    month: Month
+    part: YearPart
     every: str
 
     @property
     def days(self) -> tuple[datetime.date, datetime.date]:
         """Returns its first and its last day."""
-        return Stretch(self.month.first, self.month.end).days(self.every)
+        return Stretch(self.part.first, self.part.end).days(self.every)
 
 
-def first_of(row: ItemMonth) -> str:
+def first_of(row: ItemPart) -> str:
     return str(row.days[0])
 
 
-def last_of(row: ItemMonth) -> str:
+def last_of(row: ItemPart) -> str:
     return str(row.days[1])
 
 
 COLUMNS = columns_of("show", "levels", {"from": first_of, "to": last_of})
 
 
-def item_months(planned: PlannedFolder) -> Iterator[ItemMonth]:
-    """Yields the months of the items of a folder that are planned by their season, and of which the planner has set no
+def item_parts(planned: PlannedFolder) -> Iterator[ItemPart]:
+    """Yields the parts of the year of the items of a folder that are planned by their season, and of which the planner has set no
     levels, in order."""
     if planned.settings.seasons is None:
         return
     for item, answer in planned.answers():
         is_set = item.override and item.override.levels
         if isinstance(answer, Answer) and not is_set:
-            for month in answer.months:
-                yield ItemMonth(item.name, month, planned.every)
+            for part in answer.parts:
+                yield ItemPart(item.name, part, planned.every)
 
 
 def levels_of(planned: PlannedFolder) -> DataTable:
-    """Returns the levels of a folder by month: no rows if no season is planned."""
-    return planned.table(COLUMNS, item_months(planned))
+    """Returns the levels of a folder by part of the year: no rows if no season is planned."""
+    return planned.table(COLUMNS, item_parts(planned))

@@ -31,7 +31,7 @@ from ..remarks import Remark
 from ..table import DataTable
 from .backtest_tables import past_line
 from .board import board_of
-from .calendars import LEVELS, item_months, levels_of
+from .calendars import LEVELS, item_parts, levels_of
 from .catalogue_tables import (
     DECISION_COLUMNS,
     DECISIONS,
@@ -275,7 +275,7 @@ def write_catalogue(
     folder.remove(CHANGES, LATENESS, LEVELS, *old)
     if planned.planned.earlier:
         folder.write(CHANGES, changes_of(planned).lines)
-    if any(item_months(planned)):
+    if any(item_parts(planned)):
         folder.write(LEVELS, levels_of(planned).lines)
     lateness = lateness_of(planned.read)
     if lateness.rows:

@@ -20,10 +20,10 @@ from ..read.dates import EVERY, period_name
 from ..policies import Policy
 from ..table import DataTable
 from ..theory.suggestions import COLUMNS as POLICY_COLUMNS
-from ..sentences import MONTHS, advised, exactness, sentence
+from ..sentences import advised, exactness, part_of_year, sentence
 from .catalogue_tables import DECISION_COLUMNS, DETAIL_COLUMNS, ItemDecision
 from ..columns import columns_of
-from .calendars import ItemMonth
+from .calendars import ItemPart
 from .item_plots import ALONE, history_plot, law_plot, stock_plot
 from .law_names import law_name, plain_words
 from ..drawing.plots import Scale
@@ -50,7 +50,7 @@ LAW_COLUMNS = columns_of("show", "laws")
 
 class ItemWords:
     """The words on an item. A period is a day, week, month or period (`every`); money is in a currency. Of an item
-    with a season what was decided is of the coming year (`whole`), and all else of its first month.
+    with a season what was decided is of the coming year (`whole`), and all else of its first part.
     """
 
     def __init__(self, depth: Depth, every: str, currency: Currency) -> None:
@@ -117,29 +117,29 @@ class ItemWords:
         today, chosen = self.whole.today, self.whole.chosen
         levels = f"{today.point:,}, {today.level:,}" if today else ""
         verdict = VERDICTS[self.whole.verdict].said.format(levels)
-        when = f"In {self.month} below" if self.month else "Below"
+        when = f"In {self.part} below" if self.part else "Below"
         return f"{when} {chosen.point:,}, order up to {chosen.level:,}: {verdict}"
 
     @property
-    def month(self) -> str:
-        """Returns the month of the levels of an item with a season; nothing for others."""
+    def part(self) -> str:
+        """Returns the part of the year of the levels of an item with a season; nothing for others."""
         season = self.question.season
-        return MONTHS[season.month] if season else ""
+        return part_of_year(season.part, season.days) if season else ""
 
     @property
     def horizon(self) -> str:
         """Returns for which time the figures of policies hold."""
-        return f"if {self.month} lasted" if self.month else "in the long run"
+        return f"if {self.part} lasted" if self.part else "in the long run"
 
     @property
     def span(self) -> str:
         """Returns for which time that holds which was decided."""
-        return "in the mean of the coming year" if self.month else "in the long run"
+        return "in the mean of the coming year" if self.part else "in the long run"
 
     @property
     def nearness(self) -> str:
         """Returns how exact the theory of what was decided is."""
-        return "each month as if it lasted" if self.month else self.exactness
+        return "each part of it as if it lasted" if self.part else self.exactness
 
     @property
     def promise(self) -> str:
@@ -222,8 +222,8 @@ def policies_of(words: ItemWords) -> DataTable:
 
 def laws_of(question: Question, single: FittedLaw | None) -> DataTable:
     """Returns the figures of the laws: of what was seen, and its own if a law was fitted. Below a law that is learned
-    from others stands that of the item alone, `single`, if there is one. With a season, those of demand are of the
-    month."""
+    from others stands that of the item alone, `single`, if there is one. With a season, those of demand are of its
+    first part."""
     rows = list[dict[str, object]]()
 
     def add(table: str, name: str, figures: LawSummary) -> None:
@@ -234,7 +234,7 @@ def laws_of(question: Question, single: FittedLaw | None) -> DataTable:
         rows.append(row)
 
     for table, law in {
-        "demand": question.of_month,
+        "demand": question.as_sold,
         "returns": question.returns,
         "lead": question.lead,
     }.items():
@@ -276,7 +276,7 @@ def item_facts(words: ItemWords) -> dict[str, object]:
     columns = [*DECISION_COLUMNS, *DETAIL_COLUMNS]
     (decision,) = DataTable.of(columns, [decided_of], words.decimals).cells()
     doubted = dict(itertools.islice(words.doubted.items(), MOST_DOUBTED))
-    months = [ItemMonth(item.name, it, words.every) for it in words.whole.months]
+    parts = [ItemPart(item.name, it, words.every) for it in words.whole.parts]
     regrets, decided = [], []
     for name, row in doubted.items():
         regrets.append(Range(name, 100 * row["regret"], 0.0, 100 * row["regret_90"]))
@@ -293,7 +293,7 @@ def item_facts(words: ItemWords) -> dict[str, object]:
         "decided": decided,
         "laws": [*laws_of(words.question, depth.single).spelt(is_shown=True)],
         "history_plot": history_plot(depth, words.period_names, words.every),
-        "months": months,
+        "parts": parts,
         "law_plot": law_plot(depth, words.every),
         "stock_plot": stock_plot(depth, words.every),
     }

@@ -6,6 +6,7 @@ from collections.abc import Iterable, Sequence
 from typing import NamedTuple
 
 from ..demand.fitted import QUANTILES
+from ..demand.rate import at_rate
 from ..plan.item import Depth
 from ..read.item import Item
 from ..drawing.plots import (
@@ -53,15 +54,15 @@ def history_plot(depth: Depth, names: Sequence[str], every: str) -> Plot:
     """Returns the demand by period as bars, of the last periods if they are many. Lines are the mean of the law, which
     counts in boxes, and what 99 of 100 periods do not exceed by it: with a season, as it is in each period.
     """
-    item, figures = depth.question.as_read, depth.question.all_year.figures
-    season, factors = depth.question.season, [1.0]
+    item, law = depth.question.as_read, depth.question.all_year
+    season, rates = depth.question.season, [1.0]
     if season and item.counts:
-        factors = season.by_period[-MOST_BARS:].tolist()
+        rates = season.by_period[-MOST_BARS:].tolist()
     counts, is_unknown = drawn_demand(item)
-    means, highs = (
-        [item.box * level * factor for factor in factors]
-        for level in (figures.mean, figures.quantiles[QUANTILES[1]])
-    )
+    figures = {rate: law.like(at_rate(law, rate)).figures for rate in {*rates}}
+    box = law.box
+    means = [box * figures[rate].mean for rate in rates]
+    highs = [box * figures[rate].quantiles[QUANTILES[1]] for rate in rates]
     mean_name = f"mean of the law: {spanned(means, 2)} a {every}"
     high_name = f"99 of 100 {every}s by the law: at most {spanned(highs, 0)}"
     shown, across = counts[-MOST_BARS:], every
@@ -116,14 +117,14 @@ class DrawnLaw(NamedTuple):
 
 def laws_drawn(depth: Depth) -> list[DrawnLaw]:
     """Returns what was seen, the law, and that of the item alone, but for laws that are as what was seen: with a season,
-    all of the month."""
+    all of the part of the year."""
     question = depth.question
     seen = [*zip(question.seen.values, question.seen.weights)]
     drawn = []
     if seen:
         drawn.append(DrawnLaw("what was seen", OF_TODAY, seen))
     for name, css, law in (
-        ("the law", OF_CHOSEN, question.of_month),
+        ("the law", OF_CHOSEN, question.as_sold),
         (ALONE, OF_ALONE, depth.single),
     ):
         if law:

@@ -34,7 +34,6 @@ class Promise(NamedTuple):
     greatest: float | None = None
     at_least: int | None = None
     price: float | None = None
-    alone: float | None = None
     more: float | None = None
     error: float | None = None
 
@@ -85,9 +84,8 @@ def together_of(folder: PlannedFolder, totals: Totals) -> DataTable | None:
                 met=price.past if settings.correct else None,
                 least=least,
                 greatest=greatest,
-                at_least=totals.least[group] if settings.at_least else None,
+                at_least=totals.least[group] if settings.floor else None,
                 price=price.price,
-                alone=price.alone,
             )
         )
     return DataTable.of(COLUMNS, groups)

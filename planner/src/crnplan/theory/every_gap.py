@@ -305,12 +305,11 @@ class Cases:
         step = theory.step
         self.gaps = theory.every_gap(0, theory.most)
         self.lows = theory.lows_of(int(self.gaps[-1]))
-        if feasible.has_narrow_gaps:
+        if not theory.spare:
             self.gaps = self.gaps[self.lows[self.gaps] > 0]
-        self.orders = 1 / theory.cycles(int(self.gaps[-1]))
         # Levels are looked at up to so many cells above the widest gap.
         high = theory.beside + theory.after.high
-        if theory.has_one_lead:
+        if theory.is_nested:
             high = max(theory.after.high, feasible.least_point // step)
         self.width = high + 3
         levels = step * np.arange(self.gaps[-1] + self.width)
@@ -373,13 +372,13 @@ class Cases:
         tables = list[Floats]()
         while len(new):
             for some in theory.parts(self.gaps[new]):
-                stocks, low = theory.shortfalls.stocks(some)
+                stocks, low = theory.stocks(some)
                 tables.extend(
                     best_levels(
                         stocks,
                         low,
                         theory.step,
-                        self.orders[some],
+                        1 / theory.periods_of(some),
                         *self.bounds(some),
                         self.levels,
                         self.asked,
@@ -400,11 +399,12 @@ class Cases:
     def policies(self) -> tuple[Whole, Floats]:
         """Returns the gaps of the best policies, and their levels in items, stock, unmet demand and orders."""
         gaps = self.found[0].astype(int)
+        each, own = np.unique(gaps, return_inverse=True)
         return gaps, np.array(
             [
                 np.rint(self.theory.step * self.found[1]),
                 *self.found[2:],
-                self.orders[gaps],
+                1 / self.theory.periods_of(each)[own],
             ]
         )
 
@@ -413,7 +413,7 @@ def best_policies(theory: LongRun, costs: Floats) -> tuple[Whole, Floats]:
     """Returns the best of all feasible policies for each case, with several lead times of those that a search finds:
     see `Cases`."""
     cases = Cases(theory, costs)
-    if theory.has_one_lead:
+    if theory.is_nested:
         cases.compare_all()
     else:
         cases.search()

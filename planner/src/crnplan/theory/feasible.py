@@ -12,18 +12,12 @@ Places = TypeVar("Places", int, Whole)
 
 @dataclass(frozen=True)
 class Feasible:
-    """The pairs (s,S) that may be chosen, in items of a scenario: S - s is from `least_gap` to `most_gap`, s at least
-    `least_point`, and S at most `most_level`."""
+    """The pairs (s,S) that may be chosen, in items of a scenario: S - s is at most `most_gap`, s at least `least_point`, and S
+    at most `most_level`."""
 
-    least_gap: int = 0
     least_point: int = 0
     most_level: int = MOST_ITEMS
     most_gap: int = MOST_ITEMS
-
-    @property
-    def has_narrow_gaps(self) -> bool:
-        """Returns whether S - s has no bound below."""
-        return self.least_gap == 0
 
     @property
     def has_all_levels(self) -> bool:
@@ -39,10 +33,6 @@ class Feasible:
         """Returns the greatest S of an s that may be chosen."""
         return min(self.most_level, point + self.most_gap)
 
-    def gap(self, least: Places) -> Places:
-        """Returns the least S - s that may be chosen, and that are at least so many items."""
-        return least + (self.least_gap - least) * (least < self.least_gap)
-
     def gap_in(self, cell: Places, step: int, exact: bool) -> Places:
         """Returns S - s for cells of a lattice: the least in the cell; if the lattice is not exact, one from its middle
         on if there is one, and room for it up to the greatest gap. If there is none in the cell, it is beyond.
@@ -51,7 +41,7 @@ class Feasible:
         near = low + (0 if exact else (step - 1) // 2)
         most = self.widest
         near -= (near - most) * (near > most) * (low <= most)
-        return self.gap(near)
+        return near
 
     def has(self, point: Any, level: Any) -> Any:
         """Returns whether pairs may be chosen, whatever S - s is."""
@@ -61,10 +51,7 @@ class Feasible:
 
     def allows(self, point: int, level: int) -> bool:
         """Returns whether a pair may be chosen."""
-        return (
-            bool(self.has(point, level))
-            and self.least_gap <= level - point <= self.most_gap
-        )
+        return bool(self.has(point, level)) and level - point <= self.most_gap
 
 
 ALL = Feasible()

@@ -69,6 +69,8 @@ class Figured(PositionWalk):
         under_way = power_of(self.one, min(leads))
         self.waits = [power_of(self.one, wait) for wait in range(self.review)]
         self.has_one_lead = len(leads) == 1
+        # Whether the lows of a gap are those of all wider ones too.
+        self.is_nested = self.has_one_lead and not self.spare
         # How many cells a gap's row in a table has above S, and beside those of the gap, about.
         if self.has_one_lead:
             under_way = sum_of(sum_of(under_way, mean_of(self.waits)), self.above_low)
@@ -76,6 +78,10 @@ class Figured(PositionWalk):
             self.beside = under_way.high
         else:
             self.above, self.beside = self.room_beside()
+        # Those of orders up to S exactly.
+        self.exactly_above = self.above
+        self.above += self.spare
+        self.beside += self.spare
         self.under_way = under_way
         self.after = sum_of(under_way, self.one)
         self.one_period = Surplus(self.after, step)
@@ -119,11 +125,34 @@ class Figured(PositionWalk):
 
     def lows_below(self, gaps: Sequence[int]) -> list[Floats]:
         """Returns for each gap the chances of how far a low of `figures_from` is below S, from the cell -above on."""
+        if not self.spare:
+            return self.exact_lows(gaps)
+        return [*map(self.raised_lows, gaps)]
+
+    def raised_lows(self, gap: int) -> Floats:
+        """Returns what `lows_below` does, if orders are rounded up: each cycle has the lows of orders up to where it
+        begins. With several lead times that leaves out that an earlier cycle may have begun elsewhere.
+        """
+        shares = self.starts(gap) * self.lows_after(gap)
+        begun = np.flatnonzero(shares)
+        rows = self.exact_lows([gap + cells for cells in begun.tolist()])
+        lows = np.zeros(self.spare + max(map(len, rows)))
+        for cells, row in zip(begun.tolist(), rows):
+            first = self.spare - cells
+            lows[first : first + len(row)] += shares[cells] * row
+        kept: Floats = np.trim_zeros(lows / shares.sum(), "b")
+        return kept
+
+    def exact_lows(self, gaps: Sequence[int]) -> list[Floats]:
+        """Returns what `lows_below` does, if orders go up to S exactly."""
         if self.has_one_lead:
             lows = self.lows_of(max(gaps))
             return [lows[: gap + 1] / lows[: gap + 1].sum() for gap in gaps]
         for some in self.parts(sorted({*gaps} - self.shorts.keys())):
-            self.keep(some, self.shortfalls.chances(some))
+            rows = self.shortfalls.chances(some)
+            ends = rows.shape[1] - np.argmax(rows[:, ::-1] > 0, axis=1)
+            for gap, row, end in zip(some.tolist(), rows, ends.tolist()):
+                self.shorts[gap] = row[:end]
         return [self.shorts[gap] for gap in gaps]
 
     def rows_of(self, gaps: Whole) -> Floats:
@@ -134,24 +163,28 @@ class Figured(PositionWalk):
             row[: len(its)] = its
         return chances
 
-    def keep(self, gaps: Whole, rows: Floats) -> None:
-        """Keeps the chances of the shortfalls of some gaps."""
-        ends = rows.shape[1] - np.argmax(rows[:, ::-1] > 0, axis=1)
-        self.shorts.update(
-            (gap, row[:end])
-            for gap, row, end in zip(gaps.tolist(), rows, ends.tolist())
-        )
-
     @cached_property
     def shortfalls(self) -> Shortfalls:
         """Returns the shortfalls of the gaps, by which the stock before and after the demand of a period is known."""
         return Shortfalls(
             self,
             self.late,
-            self.above,
+            self.exactly_above,
             self.beside,
             (self.one_before.law, self.one_period.law),
         )
+
+    def stocks(self, gaps: Whole) -> tuple[Floats, int]:
+        """Returns what `Shortfalls.stocks` does."""
+        if not self.spare:
+            return self.shortfalls.stocks(gaps)
+        lows = [LatticeLaw.scaled(-self.above, row) for row in self.rows_of(gaps)]
+        left = list[LatticeLaw]()
+        for taken in (self.one_before.law, self.one_period.law):
+            left += [sum_of(low, taken) for low in lows]
+        low, high = min(law.low for law in left), max(law.high for law in left)
+        chances = np.array([law.between(low, high) for law in left])
+        return chances.reshape(2, len(gaps), -1), low
 
     def below(self, gap: int) -> LatticeLaw:
         """Returns the law of how far the stock at the end of a period is below S, in cells."""
@@ -202,7 +235,7 @@ class Figured(PositionWalk):
         while len(left):
             cells = np.arange(1, len(left) + 1) * (self.beside + left)
             count = len(left)
-            if not self.has_one_lead:
+            if not self.is_nested:
                 count = max(1, int(np.searchsorted(cells, MOST_CELLS, "right")))
             yield left[:count]
             left = left[count:]

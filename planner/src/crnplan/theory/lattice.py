@@ -12,9 +12,11 @@ from dataclasses import dataclass
 
 import numpy as np
 
+from ..chances import Whole
 from ..errors import Refused
 from ..formats import MOST_ITEMS
 from ..law import Law
+from ..policies import Lot
 from ..scenario import ScenarioData
 from .feasible import ALL, Feasible
 from .grid import gap_grid
@@ -27,6 +29,7 @@ from .walk import DIGITS, LatticeLaw, chances_in, decay_of, net_tables, sum_of
 MOST_GAPS = 60_000
 MOST_WORK = 60_000_000
 MOST_CELLS = 150_000  # of a law, or of levels
+MOST_STARTS = 400  # cells above S at which a cycle may begin
 MOST_TRANSFORM = 1 << 20  # cells of a transform
 CELLS_OF_SHAPE = 400  # in which a scenario's shape is looked at
 LEAST_CELLS = 8  # of the largest net demand or order
@@ -58,15 +61,12 @@ class Shape:
     order: float
     height: float
     rise: float  # the largest net number that comes back in a period
-    least_gap: int = 0  # that may be chosen above 0
+    spare: int  # of what is ordered beyond what is wanted, at most
 
     @property
     def gap(self) -> int:
         """Returns the largest gap that is looked at."""
-        return min(
-            MOST_ITEMS,
-            max(int(3 * self.order + 3 * self.high), self.least_gap + 3 * self.high),
-        )
+        return min(MOST_ITEMS, int(3 * self.order + 3 * self.high))
 
     @property
     def spread(self) -> float:
@@ -76,13 +76,15 @@ class Shape:
     @property
     def level(self) -> float:
         """Returns the largest level that is looked at, about."""
-        return min(MOST_ITEMS, (self.lead + 1) * self.mean + self.spread / 2 + self.gap)
+        reach = (self.lead + 1) * self.mean + self.spread / 2
+        return min(MOST_ITEMS, reach + self.gap + self.spare)
 
     def has_room(self, step: int) -> bool:
         """Returns whether the laws of the scenario on this lattice have room."""
         return (
             self.height * 4 / step <= MOST_TRANSFORM
-            and (self.spread + self.gap) / step <= MOST_CELLS
+            and (self.spread + self.gap + self.spare) / step <= MOST_CELLS
+            and min(self.spare, self.high) / step <= MOST_STARTS
         )
 
     def late_work(self, step: int, gap: float) -> float:
@@ -129,7 +131,15 @@ def height_of(demand: Law, returns: Law, step: int) -> float:
     return step * DIGITS / decay_of(net) if net.low < 0 else 0.0
 
 
-def shape_of(scenario: ScenarioData, least_gap: int = 0) -> Shape:
+def base_of(occurring: Whole, lot: Lot) -> int:
+    """Returns what divides all orders, and all numbers that occur in a scenario."""
+    base = int(np.gcd.reduce(occurring))
+    if lot.order(base) == base:
+        return base
+    return math.gcd(base, lot.pack if lot.pack > 1 else lot.least)
+
+
+def shape_of(scenario: ScenarioData) -> Shape:
     """Returns the shape of a scenario. Raises NoTheory if it has no best policy."""
     costs = scenario.costs
     for name, cost in (("holding", costs.holding), ("backlog", costs.backlog)):
@@ -160,7 +170,7 @@ def shape_of(scenario: ScenarioData, least_gap: int = 0) -> Shape:
             step = max(1, high // (review * CELLS_OF_SHAPE))
             height = height_of(scenario.demand, scenario.returns, step)
     return Shape(
-        int(np.gcd.reduce(occurring)),
+        base_of(occurring, scenario.lot),
         demand - back,
         math.sqrt(variance),
         high,
@@ -169,7 +179,7 @@ def shape_of(scenario: ScenarioData, least_gap: int = 0) -> Shape:
         order,
         height,
         rise,
-        least_gap,
+        scenario.lot.order(1) - 1,
     )
 
 
@@ -198,7 +208,7 @@ def lattice_of(
     base = shape.base
     least = finest(
         base,
-        max(shape.high, shape.order, shape.least_gap),
+        max(shape.high, shape.order, shape.spare),
         lambda step: 1 if shape.is_small(step, widest, most_gaps) else math.inf,
     )
     if least is None:

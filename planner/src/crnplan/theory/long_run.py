@@ -189,18 +189,18 @@ class LongRun(Figured):
         """Returns S - s of a gap: see `Feasible.gap_in`."""
         return self.feasible.gap_in(gap, self.step, self.exact)
 
-    def is_gap(self, gap: Places) -> Any:
-        """Returns whether a feasible policy may have a gap."""
-        items = self.items(gap)
-        return (items < (gap + 1) * self.step) & (items <= self.feasible.most_gap)
-
     def every_gap(self, first: int, most: int) -> Whole:
-        """Returns the gaps from the first to the most that feasible policies may have."""
-        widest = self.feasible.widest
-        gaps = np.arange(first, min(most, widest // self.step) + 1)
-        if self.feasible.has_narrow_gaps:
+        """Returns the gaps from the first to the most that feasible policies may have. If orders are rounded up, gaps that
+        order as narrower ones do are left out."""
+        gaps = np.arange(first, min(most, self.feasible.widest // self.step) + 1)
+        if not self.spare or not len(gaps):
             return gaps
-        kept: Whole = gaps[self.is_gap(gaps) & (self.items(gaps) <= widest)]
+        wanted = range(first, int(gaps[-1]) + len(self.falls))
+        ordered = np.array([self.lot.order(cells) for cells in wanted])
+        rises = np.append(0, np.cumsum(np.diff(ordered) > 0))
+        is_new = rises[len(self.falls) - 1 :] > rises[: len(gaps)]
+        is_new[0] = True
+        kept: Whole = gaps[is_new]
         return kept
 
     def grid(self) -> Whole:
@@ -262,6 +262,9 @@ class LongRun(Figured):
         Nested gaps have the lows of one lead time. Any level is feasible if no bounds are given, and no gap is left out
         if no cost is known."""
         lows = self.lows_of(int(gaps[-1]))
+        if self.spare:  # the lows of a cycle up to each gap, in the mean
+            lows = np.zeros(int(gaps[-1]) + 1)
+            lows[gaps] = np.diff(self.periods_of(gaps) / self.span, prepend=0.0)
         above = 0 if is_nested else self.above
         turned = (lows[None] if is_nested else self.rows_of(gaps))[:, ::-1].copy()
         width = turned.shape[1]
@@ -298,7 +301,7 @@ class LongRun(Figured):
         """Yields rising gaps, each with the least levels, in items, that meet these shares."""
         for some in self.parts(gaps):
             levels = [
-                self.walk(some, 0 * some, share=share, is_nested=self.has_one_lead)[0]
+                self.walk(some, 0 * some, share=share, is_nested=self.is_nested)[0]
                 for share in shares
             ]
             yield from zip(some.tolist(), np.transpose(levels).tolist())
@@ -310,11 +313,12 @@ class LongRun(Figured):
 
     def first_gap(self, cost: float, most: int) -> int:
         """Returns the first gap up to the most whose orders alone cost no more."""
-        return int(np.argmax(self.cycles(most) * cost * CLOSE >= self.setup))
+        cycles = self.cycles(most + self.spare)[self.spare :]
+        return int(np.argmax(cycles * cost * CLOSE >= self.setup))
 
     def lowest_point(self, cost: float) -> int:
         """Returns the least s, but for the least feasible gap, of a policy that costs no more: see the module."""
-        if not self.has_one_lead:
+        if not self.is_nested:
             return self.feasible.least_point
         first = self.feasible.least_point // self.step
         levels = self.step * np.arange(min(first, 0), self.after.high + 2)
@@ -334,7 +338,8 @@ class LongRun(Figured):
         if sought.fixed:
             points, fixed = sought.fixed(gaps)
             looked = np.flatnonzero(self.fits(gaps, points, fixed))
-        if not self.has_one_lead and len(looked) > FEW and known < math.inf:
+        has_floors = not (self.has_one_lead or self.spare)
+        if has_floors and len(looked) > FEW and known < math.inf:
             looked = looked[self.floors(sought.share, gaps[looked]) <= CLOSE * known]
         # A gap has no level if the best of all is above the greatest S of all.
         is_cut = self.feasible.has_all_levels and not sought.to_the_top
@@ -351,7 +356,7 @@ class LongRun(Figured):
                 fixed[here] if len(fixed) else NONE,
                 share=sought.share,
                 ratio=self.ratio,
-                is_nested=self.has_one_lead,
+                is_nested=self.is_nested,
                 feasible=self.feasible,
                 cut=cut,
                 base=base,
@@ -367,7 +372,7 @@ class LongRun(Figured):
             return NO_POLICY
         levels, costs = self.levels_of(gaps, sought, known)
         # With several lead times, transforms have rounded the costs.
-        best = place_of_least(costs, 1 + NEAR if self.has_one_lead else CLOSE)
+        best = place_of_least(costs, 1 + NEAR if self.is_nested else CLOSE)
         return Candidate(float(costs[best]), int(gaps[best]), int(levels[best]))
 
     def cheapest(self, sought: Sought) -> Candidate:
@@ -379,7 +384,7 @@ class LongRun(Figured):
         known = NO_POLICY
         first = self.every_gap(usual, usual)
         for gaps in (first if len(first) else grid[-1:], grid):
-            if known.cost == math.inf or not self.has_one_lead:
+            if known.cost == math.inf or not self.is_nested:
                 few = self.least_of(gaps[gaps <= most], sought, known.cost)
                 known = min(known, few)
                 if known.cost < math.inf:
@@ -393,13 +398,13 @@ class LongRun(Figured):
         most = self.widest(known.cost, sought.lowest)
         reviews = -(-self.longest // self.review)
         room = power_of(self.net, reviews).high + most
-        work = (most + 1) * self.review * work_of(room, reviews)
-        if work > MOST_WORK and not self.has_one_lead:
+        of_gap = self.review * work_of(room, reviews) + self.spare * room
+        if (most + 1) * of_gap > MOST_WORK and not self.is_nested:
             self.is_searched = True
             return self.searched(sought, known.cost, most)
         gaps = self.every_gap(self.first_gap(known.cost, most), most)
         found = self.least_of(
-            gaps, sought._replace(to_the_top=self.has_one_lead), known.cost
+            gaps, sought._replace(to_the_top=self.is_nested), known.cost
         )
         return found if found.cost <= CLOSE * known.cost else known
 
@@ -452,7 +457,7 @@ class LongRun(Figured):
     def fullest(self) -> Candidate:
         """Returns the feasible policy that meets most demand at once, and has the fewest periods with a shortage: that of
         the greatest S and the least gap."""
-        return self.policy(self.feasible.gap(0) // self.step, self.feasible.most_level)
+        return self.policy(0, self.feasible.most_level)
 
     def nearest(self, share: float) -> Candidate:
         """Returns the cheapest feasible policy that meets a share, or the one that meets most."""
@@ -479,7 +484,7 @@ class LongRun(Figured):
         def fixed(gaps: Whole) -> tuple[Whole, Whole]:
             spans: Whole = self.items(gaps)
             if self.exact:
-                spans = np.maximum(spans, self.feasible.gap(gaps * self.step + rest))
+                spans = gaps * self.step + rest
             return np.full(len(gaps), point), point + spans
 
         return self.at_gap(self.cheapest(Sought(lowest=point, fixed=fixed)), point)

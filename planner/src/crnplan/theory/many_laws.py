@@ -13,7 +13,6 @@ from __future__ import annotations
 import contextlib
 import dataclasses
 import math
-from collections import defaultdict
 from collections.abc import Iterable, Iterator, Mapping, Sequence
 from dataclasses import dataclass
 
@@ -26,7 +25,6 @@ from ..scenario import ScenarioData
 from .feasible import ALL
 from .lattice import NoTheory, Shape, finest, shape_of, theory_on
 from .long_run import NO_POLICY, Candidate, LongRun
-from .shortfalls import chances_of, demands_of, falling, transforms_of
 from .walk import PositionWalk, room_for
 
 DEVIATIONS = 8  # of the net demand of the lead time, which have room
@@ -37,7 +35,6 @@ OF_CELL = 50
 OF_PERIOD = 42
 OF_PAIR = 5
 LEAST_ROOM = 512
-TOGETHER = 8  # laws, whose tables then stay near the processor
 
 CONFIDENCE = 0.8  # by default, of the laws that a history allows
 FACTORS = tuple(1.1**power for power in range(-5, 7))  # of the gap without a promise
@@ -112,37 +109,6 @@ def run_of(
     return theory_on(scenario, shape, step, step == shape.base, ALL, made)
 
 
-def compute_shortfalls(asked: Iterable[tuple[LongRun, Iterable[int]]]) -> None:
-    """Computes the shortfalls of gaps under many laws, some laws together, which takes less time than law by law. Laws
-    with one lead time or with returns are left out, and those without a review in each period.
-    """
-    alike = defaultdict[int, list[tuple[LongRun, list[int]]]](list)
-    for theory, gaps in asked:
-        new = sorted({*gaps} - theory.shorts.keys())
-        is_alike = theory.net.low >= 0 and theory.review == 1
-        if new and not theory.has_one_lead and is_alike:
-            alike[len(theory.late)].append((theory, new))
-    for pairs in alike.values():
-        for first in range(0, len(pairs), TOGETHER):
-            keep_shortfalls(pairs[first : first + TOGETHER])
-
-
-def keep_shortfalls(pairs: Sequence[tuple[LongRun, list[int]]]) -> None:
-    """Computes the shortfalls of rising gaps under each of some laws whose orders are late for equally long at most."""
-    room = room_for(1 + max(gaps[-1] + theory.beside for theory, gaps in pairs))
-    moves = transforms_of([theory.net for theory, _ in pairs], room)
-    demands = demands_of(moves, len(pairs[0][0].late), room)
-    rows = []
-    for place, (theory, gaps) in enumerate(pairs):
-        cycle = theory.span * theory.lows_of(gaps[-1])
-        words = demands[:, place], np.array(gaps), moves[place], theory.late
-        rows.append(falling(cycle, *words))
-    chances = chances_of(np.concatenate(rows), room)
-    for theory, gaps in pairs:
-        theory.keep(np.array(gaps), chances[: len(gaps)])
-        chances = chances[len(gaps) :]
-
-
 def own_runs(
     scenario: ScenarioData,
     laws: Sequence[tuple[Law, Law]],
@@ -177,11 +143,9 @@ def figures_of_laws(
             "no law of demand has a long run: as much comes back as is asked for",
             "demand",
         )
-    asked = [(theory, theory.pairs_of(policies)) for theory in runs]
-    compute_shortfalls((theory, (gap for gap, _ in pairs)) for theory, pairs in asked)
     figures = []
-    for theory, pairs in asked:
-        theory.figure(pairs)
+    for theory in runs:
+        theory.figure(theory.pairs_of(policies))
         figures.append([theory.figures(policy.s, policy.S) for policy in policies])
     table, scale = np.array(figures), float(scenario.scale)
     return LawFigures(table[..., 0] / scale, table[..., 1])
@@ -240,14 +204,9 @@ class Promises:
         )
 
     def prepare(self, laws: Sequence[int], gaps: Sequence[int]) -> None:
-        """Computes the levels of rising gaps under some laws at once, which is faster than one by one."""
-        asked = [
-            (law, [gap for gap in gaps if (law, gap) not in self.levels])
-            for law in laws
-        ]
-        asked = [(law, new) for law, new in asked if new]
-        compute_shortfalls((self.theories[law], new) for law, new in asked)
-        for law, new in asked:
+        """Computes the levels of rising gaps under some laws that are not known."""
+        for law in laws:
+            new = [gap for gap in gaps if (law, gap) not in self.levels]
             for gap, levels in self.theories[law].levels_with_fill(new, self.shares):
                 self.levels[law, gap] = dict(zip(self.shares, levels))
 
@@ -317,5 +276,4 @@ class Promises:
         """Returns the gaps around one that are looked at too."""
         feasible = self.theory.feasible
         factors = FACTORS if feasible.has_all_levels else (*FEWER, *FACTORS)
-        spans = [feasible.gap(round(first * factor) * self.step) for factor in factors]
-        return sorted({span // self.step for span in spans} - {first})
+        return sorted({round(first * factor) for factor in factors} - {first})

@@ -54,12 +54,10 @@ def quotient(series: Floats, divisor: Floats) -> Floats:
     """
     found = series.copy()
     reach = len(divisor) - 1
-    places = np.flatnonzero(series)
-    if len(places) == 0 or reach == 0:  # nothing is divided, or it is by 1
-        return found
-    end = places[-1]
+    end = np.flatnonzero(series)[-1:].sum()  # 0 if all are 0
+    stays = divisor.sum() < SETTLED  # A mean of equal ones is equal to them.
     for place in range(len(found) - 1):
-        if place % LOOK_EVERY == 0 and place > max(reach, end):
+        if stays and place % LOOK_EVERY == 0 and place > max(reach, end):
             last = found[place - reach : place]
             is_near = abs(last[0] - last[-1]) <= 2 * EQUAL * last[-1]
             if (

@@ -26,7 +26,7 @@ import numpy as np
 from scipy import fft
 
 from ..chances import Floats
-from ..policies import Policy
+from ..policies import Lot, Policy
 from ..scenario import ScenarioData
 from .feasible import ALL
 from .lattice import MOST_GAPS, NoTheory, lattice_of, shape_of, theory_on
@@ -56,8 +56,10 @@ def theory_of(scenario: ScenarioData, most_gaps: int = MOST_GAPS) -> LongRun:
     """Returns the theory of a scenario, fine enough for its own policies, also with costs of 0. With one lead time the
     lattice has at most so many gaps.
 
-    Raises NoTheory if there is no long run, or if the numbers of the scenario are too far apart.
+    Its orders go up to S exactly, as those of a run do. Raises NoTheory if there is no long run, or if the numbers of the
+    scenario are too far apart.
     """
+    scenario = dataclasses.replace(scenario, lot=Lot())
     costs = scenario.costs
     gaps = [policy.S - policy.s for policy in scenario.policies]
     positive = dataclasses.replace(
@@ -212,7 +214,8 @@ def is_fine(theory: LongRun, scenario: ScenarioData) -> bool:
     too wide."""
     widest = max(policy.S - policy.s for policy in scenario.policies)
     high = max(*scenario.demand.values, *(scenario.returns or scenario.demand).values)
-    return theory.exact and widest + 3 * high <= MOST_BIAS_GAPS * theory.step
+    is_exact = theory.exact and not theory.spare
+    return is_exact and widest + 3 * high <= MOST_BIAS_GAPS * theory.step
 
 
 def start_bias(scenario: ScenarioData, known: LongRun | None = None) -> StartBias:

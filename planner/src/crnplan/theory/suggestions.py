@@ -164,7 +164,6 @@ def chosen_policies(
         bound = max if factor > 1 else min
         changed = bound(round(gap * factor), gap + (1 if factor > 1 else -1))
         if changed >= 0:
-            changed = theory.gap_of(0, theory.feasible.gap(changed * theory.step))
             chosen.add(name, theory.cheapest_of_gaps([changed], 0.0), Remark(name))
     shift = max(1, round(theory.deviation / 2))
     for name, times in NEIGHBOURS.items():

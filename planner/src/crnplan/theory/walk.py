@@ -8,6 +8,10 @@ often it visits each place is a renewal sequence (Veinott and Wagner, Computing 
 With returns, it is the renewal sequence of the walk's lows, spread over the heights that the walk visits before its
 next low: the Wiener-Hopf factors of a random walk (Feller, An Introduction to Probability Theory and Its Applications,
 volume II, chapters XII and XVIII).
+
+If orders are rounded up, the walk starts anew above S, by how far below S the low is that ended the cycle before. These
+starts are a Markov chain. With packs and s = S, all positions up to a pack above s are equally likely, as of an (R,nQ)
+policy (Zipkin, Foundations of Inventory Management, 2000, chapter 6).
 """
 from __future__ import annotations
 
@@ -335,6 +339,10 @@ class PositionWalk:
         visits, self.falls = factors_of(self.net)
         self.span = self.review * float(visits.sum())  # periods of a low
         self.lows: Floats = NOTHING.chances
+        self.lot = scenario.lot.counted_in(step)
+        # An order goes so many cells above S at most.
+        self.spare = self.lot.order(1) - 1
+        self.begun = dict[int, Floats]()
         self.above_low = (
             LatticeLaw.scaled(0, visits).reflected if self.net.low < 0 else NOTHING
         )
@@ -354,9 +362,46 @@ class PositionWalk:
         """Returns the mean number of periods from one order to the next, of the gaps up to the most."""
         return np.asarray(self.span * np.cumsum(self.lows_of(most)))
 
+    def lows_after(self, gap: int) -> Floats:
+        """Returns how many lows a cycle has in the mean that begins 0, 1, .. up to `spare` cells above S."""
+        return np.cumsum(self.lows_of(gap + self.spare))[gap:]
+
+    def falls_below(self, height: int) -> Floats:
+        """Returns the chances that the first low below a gap is 1, 2, .. cells below, from so many cells above it."""
+        near = self.lows_of(height)[-len(self.falls) + 1 :]
+        return convolved(self.falls[1:], near)[len(near) - 1 :]
+
+    def starts(self, gap: int) -> Floats:
+        """Returns the chances that a cycle begins 0, 1, .. up to `spare` cells above S, by the low that ends the one
+        before: the long run of a Markov chain over cycles."""
+        if gap not in self.begun:
+            wanted = range(gap + 1, gap + len(self.falls))
+            above = [self.lot.order(cells) - cells for cells in wanted]
+            heights, places = np.unique(above, return_inverse=True)
+            moves = np.array(
+                [
+                    np.bincount(places, self.falls_below(gap + height), len(heights))
+                    for height in heights.tolist()
+                ]
+            )
+            left = np.eye(len(heights)) - moves.T + 1.0
+            law = np.zeros(self.spare + 1)
+            law[heights] = np.linalg.solve(left, np.ones(len(heights)))
+            self.begun[gap] = law
+        return self.begun[gap]
+
     def periods(self, gap: int) -> float:
         """Returns the mean number of periods from one order to the next."""
+        if self.spare:
+            return self.span * float(self.starts(gap) @ self.lows_after(gap))
         return self.span * float(self.lows_of(gap).sum())
+
+    def periods_of(self, gaps: Whole) -> Floats:
+        """Returns what `periods` does, for some rising gaps."""
+        if self.spare:
+            return np.array([self.periods(gap) for gap in gaps.tolist()])
+        periods: Floats = self.cycles(int(gaps[-1]))[gaps]
+        return periods
 
     def positions(self, gap: int) -> LatticeLaw:
         """Returns the law of how far the position after a review is below S."""

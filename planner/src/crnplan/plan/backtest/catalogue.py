@@ -74,7 +74,7 @@ def methods_of(settings: Settings) -> list[str]:
     seasons = settings.seasons
     has = {
         CORRECTED: settings.correct,
-        TOGETHER: bool(settings.together),
+        TOGETHER: bool(settings.prices),
         SEASONAL: bool(seasons and seasons.classes),
     }
     return [method for method in has if has[method]]

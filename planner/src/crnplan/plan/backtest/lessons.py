@@ -83,7 +83,13 @@ def uncorrected(settings: Settings) -> Settings:
     """Returns settings by which plans are tested: what a catalogue has learned of fill rates, prices and seasons is from
     all its periods, also from those on which they are tested. So each item has its own fill rate.
     """
-    own: dict[str, Any] = {"correct": False, "together": {}, "at_least": None}
+    own: dict[str, Any] = {
+        "correct": False,
+        "together": {},
+        "at_least": None,
+        "fill": None,
+        "service": {},
+    }
     return dataclasses.replace(settings, **own, **dict.fromkeys(LEARNED))
 
 

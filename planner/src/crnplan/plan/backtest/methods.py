@@ -30,7 +30,7 @@ from ..seasons import InSeason, Stretch
 from .outcomes import Happened, Outcome, MethodRun
 from .smoothing import smoothed_levels, wanted_share
 
-KEPT, REFITTED, DAMPED = "kept", "refitted", "damped"
+KEPT, REFITTED = "kept", "refitted"
 CORRECTED, TOGETHER, SEASONAL = "corrected", "together", "seasonal"
 FOLLOWED = "followed"
 SMOOTHED = "smoothed"
@@ -46,13 +46,11 @@ SHIFTS = -2, -1, 0, 1, 2
 @dataclass(frozen=True)
 class Walk:
     """How the past is walked through: a plan is made of the first `record` periods, and is kept or refitted after each
-    `every` periods more, on the last `window` of them. With a `least_gain` refitted plans are tested too whose levels stay if others gain less than this share of their
-    cost. Raises Refused for what can't be meant."""
+    `every` periods more, on the last `window` of them."""
 
     record: int = 52
     every: int = 13
     window: int = 52
-    least_gain: float | None = None
 
     def stretches(self, periods: int) -> Iterator[tuple[int, int, int]]:
         """Yields for each plan the first period that it is made of, the first that it is for, and the one after it."""
@@ -106,10 +104,9 @@ class PlanInUse(NamedTuple):
         return [(max(0, top - span) * box, top * box) for top in tops]
 
 
-def chosen(question: Question) -> tuple[Figures, Figures]:
-    """Returns the best policy and the one that is chosen beside that of an earlier plan, as theory sees them."""
-    choice = choice_of(question)
-    return question.figures(choice.best), question.figures(choice.levels)
+def chosen(question: Question) -> Figures:
+    """Returns the best policy, as theory sees it."""
+    return question.figures(choice_of(question).best)
 
 
 class Walked:
@@ -128,39 +125,40 @@ class Walked:
         """
         self.as_read, self.item = as_read, as_read.known
         self.prior, self.walk, self.ways = prior, walk, ways
-        self.settings = dataclasses.replace(settings, least_gain=walk.least_gain)
+        self.settings = settings
         self.question = self._asked(0, walk.record)
         self.happened = Happened(
-            self.item, self.question.lead, self.question.seed("past"), walk.record
+            self.item,
+            self.question.bounds.lot,
+            self.question.lead,
+            self.question.seed("past"),
+            walk.record,
         )
-        self.plan, _ = chosen(self.question)
+        self.plan = chosen(self.question)
 
     @cached_property
     def later(self) -> list[int]:
         """Returns the places of the later periods that are known, in all periods of the item."""
         return self.as_read.known_places[self.walk.record :]
 
-    def _asked(self, start: int, stop: int, before: Levels | None = None) -> Question:
-        item = self.item.part(start, stop)
-        return question_of(item, self.settings, self.prior, before)
+    def _asked(self, start: int, stop: int) -> Question:
+        return question_of(self.item.part(start, stop), self.settings, self.prior)
 
     def kept(self) -> Outcome:
         """Returns what the plan comes to if it is kept."""
         return self.happened.of_figures([self.plan] * self.happened.later)
 
     @cached_property
-    def refits(self) -> list[tuple[PlanInUse, Figures]]:
-        """Returns the plan and its refits, each with the policy that is in use if levels stay unless others gain the least
-        gain beside. If a window has no plan, the last one is kept."""
-        refits = list[tuple[PlanInUse, Figures]]()
-        question, best, stays = self.question, self.plan, self.plan
+    def refits(self) -> list[PlanInUse]:
+        """Returns the plan and its refits. If a window has no plan, the last one is kept."""
+        refits = list[PlanInUse]()
+        question, best = self.question, self.plan
         for start, origin, end in self.walk.stretches(len(self.item.counts)):
             if origin > self.walk.record:
                 with contextlib.suppress(Refused):
-                    asked = self._asked(start, origin, stays.levels)
-                    best, stays = chosen(asked)
-                    question = asked
-            refits.append((PlanInUse(question, best, end - origin), stays))
+                    asked = self._asked(start, origin)
+                    question, best = asked, chosen(asked)
+            refits.append(PlanInUse(question, best, end - origin))
         return refits
 
     def run(self, plans: Sequence[PlanInUse]) -> MethodRun:
@@ -209,19 +207,7 @@ def kept_of(walked: Walked) -> MethodRun:
 
 def refitted_of(walked: Walked) -> MethodRun:
     """Returns plans that are refitted."""
-    return walked.run([plan for plan, _ in walked.refits])
-
-
-def damped_of(walked: Walked) -> MethodRun | None:
-    """Returns refitted plans whose levels stay if others gain too little; None without a least gain."""
-    if walked.walk.least_gain is None:
-        return None
-    levels = [walked.plan.levels] * walked.walk.record
-    promises = list[tuple[float, float]]()
-    for plan, stays in walked.refits:
-        levels += [stays.levels] * plan.periods
-        promises += [(stays.cost, stays.fill)] * plan.periods
-    return MethodRun(levels, promises)
+    return walked.run(walked.refits)
 
 
 def planned_of(method: str, walked: Walked) -> MethodRun | None:
@@ -235,33 +221,33 @@ def planned_of(method: str, walked: Walked) -> MethodRun | None:
         asked = dataclasses.replace(
             question, settings=way.settings, known=question.theory
         )
-        figures, _ = chosen(asked)
+        figures = chosen(asked)
         question = asked
     return walked.run([PlanInUse(question, figures, walked.happened.later)])
 
 
-def month_of(season: InSeason, number: int) -> Stretch:
-    """Returns the month of the coming year that has a period, or the one a year or more before it. A year of weeks has 52."""
+def part_of(season: InSeason, number: int) -> Stretch:
+    """Returns the part of the coming year that has a period, or the one a year or more before it. A year of weeks has 52."""
     first, end = season.year[0].first, season.year[-1].end
     within = first + (number - first) % (end - first)
-    return next(month for month in season.year if within < month.end)
+    return next(part for part in season.year if within < part.end)
 
 
 def seasonal_of(walked: Walked) -> MethodRun | None:
-    """Returns the plan of the record by its months: the kept one if the item has no season; None if the records show
-    none. A period has the levels of its month, by its number in the calendar, also if periods before it are not known.
+    """Returns the plan of the record by the parts of the year: the kept one if the item has no season; None if the records show
+    none. A period has the levels of its part, by its number in the calendar, also if periods before it are not known.
     """
     way = walked.ways.get(SEASONAL)
     if way is None:
         return None
     plans = list[PlanInUse]()
     with contextlib.suppress(Refused):
-        plans = months_planned(walked, way)
+        plans = parts_planned(walked, way)
     return walked.run(plans) if plans else kept_of(walked)
 
 
-def months_planned(walked: Walked, way: Way) -> list[PlanInUse]:
-    """Returns the plans of the later periods of an item by their months; none without a season. Raises Refused if it
+def parts_planned(walked: Walked, way: Way) -> list[PlanInUse]:
+    """Returns the plans of the later periods of an item by parts of the year; none without a season. Raises Refused if it
     could not be planned so."""
     item = walked.as_read
     record = dataclasses.replace(item.part(0, walked.later[0]), cut=())
@@ -271,11 +257,11 @@ def months_planned(walked: Walked, way: Way) -> list[PlanInUse]:
         return []
     known, plans = dict[Stretch, tuple[Question, Figures]](), list[PlanInUse]()
     numbers = [item.first + place for place in walked.later]
-    for month, own in itertools.groupby(numbers, partial(month_of, season)):
-        if month not in known:
-            asked = question.month(month)
-            known[month] = asked, chosen(asked)[0]
-        plans.append(PlanInUse(*known[month], len([*own])))
+    for part, own in itertools.groupby(numbers, partial(part_of, season)):
+        if part not in known:
+            asked = question.during(part)
+            known[part] = asked, chosen(asked)
+        plans.append(PlanInUse(*known[part], len([*own])))
     return plans
 
 
@@ -286,12 +272,12 @@ def followed_of(walked: Walked) -> MethodRun | None:
     if way is None or way.settings.following is None:
         return None
     plans = list[PlanInUse]()
-    for plan, _ in walked.refits:
+    for plan in walked.refits:
         asked = plan.question
         level = way.settings.following.at_level(asked.item, asked.demand)
         with contextlib.suppress(Refused):
             moved_so = asked.moved(level, None)
-            plan = PlanInUse(moved_so, chosen(moved_so)[0], plan.periods)
+            plan = PlanInUse(moved_so, chosen(moved_so), plan.periods)
         plans.append(plan)
     return walked.run(plans)
 
@@ -322,7 +308,6 @@ METHODS = (
     Method(TODAY, today_of),
     Method(KEPT, kept_of),
     Method(REFITTED, refitted_of, is_changing=True),
-    Method(DAMPED, damped_of, is_changing=True),
     Method(CORRECTED, partial(planned_of, CORRECTED)),
     Method(TOGETHER, partial(planned_of, TOGETHER)),
     Method(SEASONAL, seasonal_of, is_changing=True),

@@ -31,7 +31,7 @@ NO_HISTORY = "stated without history"
 class Backtest:
     """An item's test on its past. `first` is the number of the first later period, `demands` what was asked in these,
     `mean` the mean demand of all its periods, `setup` money an order and `holding` money an item and period. `today` is
-    None without a policy today. `kept` and `refitted` are the plan, and `damped` is the refitted one with a least gain, None without.
+    None without a policy today. `kept` and `refitted` are the plan.
     `corrected` aims by the records of the catalogue, `together` has the price of the item's class, `seasonal` the
     levels of each month, and `followed` is refitted at the level of the last periods: None if the records teach none of that. `smoothed` is the rule of thumb, and
     `shuffled` the plan that is kept with all periods in a random order; None if that has none. `above` is the largest
@@ -49,7 +49,6 @@ class Backtest:
     today: Traced | None
     kept: Traced
     refitted: Traced
-    damped: Traced | None
     corrected: Traced | None
     together: Traced | None
     seasonal: Traced | None

@@ -3,7 +3,7 @@
 Each policy is in use from the first period on. What happens before the later periods is not counted, but leaves a stock
 and orders on their way, as they are when a policy has been in use for long. It begins with nothing on order and a stock
 between its s and S, by chance, where its position mostly is in the long run. Lead times are drawn from a law. If an item
-is not reviewed in each period, it is in the first later one. Orders are rounded up to the packs of the item.
+is not reviewed in each period, it is in the first later one. Orders are rounded up to what can be ordered.
 """
 from __future__ import annotations
 
@@ -18,6 +18,7 @@ import numpy as np
 
 from ...crnsim.periods import Realization, Period, Rates, periods_of
 from ...demand.fitted import FittedLaw
+from ...policies import Lot
 from ...read.item import Item
 from ..answer import Figures
 from ..question import Levels
@@ -67,8 +68,10 @@ class Traced(Outcome):
 class Happened:
     """What has happened to an item, of which the first `record` periods are not counted."""
 
-    def __init__(self, item: Item, lead: FittedLaw, seed: int, record: int) -> None:
-        """Draws the lead times of orders from their law."""
+    def __init__(
+        self, item: Item, lot: Lot, lead: FittedLaw, seed: int, record: int
+    ) -> None:
+        """Takes what can be ordered, and draws the lead times of orders from their law."""
         periods, self.record = len(item.counts), record
         random = np.random.default_rng(seed)
         self.past = Realization(
@@ -77,7 +80,7 @@ class Happened:
             lead.draws(random, periods),
             item.review,
             record,
-            item.bounds.pack,
+            lot,
         )
         self.start = float(random.random())
         self.rates = Rates(item.setup, 0, item.holding, item.backlog or Fraction(0))

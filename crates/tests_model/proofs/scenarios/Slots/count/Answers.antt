@@ -12,11 +12,3 @@ returns-in-Two c = (refl, omega arith)
 pub returns-in-SixtyFour : goal.returns-in-SixtyFour
 unfolding lib.Count.ones
 returns-in-SixtyFour c = (refl, omega arith)
-
-pub returns-in-LeastLarge : goal.returns-in-LeastLarge
-unfolding lib.Count.ones
-returns-in-LeastLarge c = (refl, omega arith)
-
-pub returns-in-Most : goal.returns-in-Most
-unfolding lib.Count.ones
-returns-in-Most c = (refl, omega arith)
