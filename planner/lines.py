@@ -79,13 +79,26 @@ def keep(measured: coverage.Coverage, seconds: Mapping[str, float]) -> None:
         own.write_text(json.dumps(seconds), "utf-8")
 
 
+def files_of(folder: Path) -> Iterator[coverage.CoverageData]:
+    """Yields what each process has kept."""
+    for path in sorted(folder.glob("data.*")):
+        data = coverage.CoverageData(str(path))
+        data.read()
+        yield data
+
+
 def read_from(folder: Path) -> coverage.Coverage:
-    """Returns what all processes have kept, which is not written."""
+    """Returns the lines that any process has run, which are not written. Of what a process has kept the lines are joined
+    here: `combine` would read all that it has joined so far for each further file."""
     settings = str(folder.resolve() / "settings.ini")
     read = coverage.Coverage(data_file=None, config_file=settings)
     for pattern in LEFT_OUT:
         read.exclude(pattern)
-    read.combine([str(folder)], keep=True)
+    lines = defaultdict[str, set[int]](set)
+    for data in files_of(folder):
+        for path in data.measured_files():
+            lines[path].update(data.lines(path) or [])
+    read.get_data().add_lines(lines)
     return read
 
 
@@ -116,13 +129,15 @@ def tests_of(folder: Path) -> dict[tuple[str, int], list[str]]:
 
     Lines that run as a module is loaded are left out.
     """
-    data, found, sizes = read_from(folder).get_data(), {}, Counter[str]()
-    for path in data.measured_files():
-        for line, names in data.contexts_by_lineno(path).items():
-            tests = [*filter(None, names)]
-            sizes.update(tests)
-            if tests and path.endswith(".py"):
-                found[str(Path(path).relative_to(SOURCE)), line] = tests
+    ran, sizes = defaultdict[tuple[str, int], set[str]](set), Counter[str]()
+    for data in files_of(folder):
+        for path in data.measured_files():
+            file = str(Path(path).relative_to(SOURCE))
+            for line, names in data.contexts_by_lineno(path).items():
+                ran[file, line].update(filter(None, names))
+    found = {at: [*names] for at, names in ran.items() if names}
+    for tests in found.values():
+        sizes.update(tests)
     for tests in found.values():
         tests.sort(key=lambda name: (sizes[name], name))
     return found
