@@ -2,8 +2,6 @@
 from __future__ import annotations
 
 import dataclasses
-import itertools
-import math
 from fractions import Fraction
 from pathlib import Path
 
@@ -31,7 +29,6 @@ from crnplan.plan.backtest.one import (
     backtest_one,
     shuffled,
 )
-from crnplan.plan.backtest.outcomes import MethodRun
 from crnplan.plan.one import plan_one
 from crnplan.plan.how import NONE, Settings
 from crnplan.plan.question import question_of

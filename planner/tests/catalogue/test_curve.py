@@ -3,7 +3,6 @@ from __future__ import annotations
 
 import csv
 import itertools
-import re
 import shutil
 import sqlite3
 from dataclasses import replace

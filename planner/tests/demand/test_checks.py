@@ -1,7 +1,6 @@
 """Tests of the checks of a history: planted effects, and the lines for planners."""
 from __future__ import annotations
 
-import math
 import time
 import tomllib
 from collections.abc import Collection, Sequence

@@ -15,7 +15,7 @@ from werkzeug.datastructures import ImmutableMultiDict
 
 from crnplan.desk import server
 from crnplan.desk.front import PAGES, Front
-from crnplan.desk.kept import FILES, STATE, UNKNOWN, Begun
+from crnplan.desk.kept import FILES, STATE, UNKNOWN
 from crnplan.errors import CrnplanError, Refused
 from crnplan.drawing.rendering import rendered
 from planner.tests.desk.conftest import HOST, Planner, add_made_plan, file_of, opened

@@ -10,7 +10,7 @@ from typing import Any
 import pytest
 
 import crnplan as crn
-from crnplan.desk.kept import LAST_TEST, OVERRIDES, PLANS, Begun, DeskOverride
+from crnplan.desk.kept import LAST_TEST, OVERRIDES, Begun, DeskOverride
 from crnplan.desk.safety import WHOLE_PAGE
 from crnplan.desk.work import STOPPED, TESTING
 from crnplan.read.overrides import SET_LEVELS, Override as Stated

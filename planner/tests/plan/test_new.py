@@ -9,7 +9,6 @@ from typing import Any
 import numpy as np
 import pytest
 
-from crnplan.demand.index import Index
 from crnplan.demand.learning import CLASS, GridPrior, Prior, learn
 from crnplan.money import Currency
 from crnplan.show.item_page import ItemWords, item_page, item_summary
@@ -21,7 +20,6 @@ from crnplan.plan.choice import allowed_by
 from crnplan.plan.one import plan_asked, plan_one
 from crnplan.plan.how import Settings
 from crnplan.plan.question import question_of
-from crnplan.plan.seasons import Seasons
 from crnplan.read.item import ENDED, NEW, NO_DEMAND, Item
 from crnplan.remarks import Remark
 from crnplan.theory.lattice import NoTheory
@@ -30,13 +28,6 @@ from planner.tests.plan.items import SHORT, item_of
 from planner.tests.theory.long_run_costs import fills_of, shortfall_of
 
 ALL, BY_CLASS = Settings(borrow="all", **SHORT), Settings(borrow="class", **SHORT)
-
-# Of a year in whose first two weeks 13.5 times as much is asked for as in the mean, an item with one demand, in these.
-SEASON = Index((13.5, *[0.5] * 25), 0.001, 1.0, 3)
-IN_SEASON = Settings(
-    fit="empirical", every="week", seasons=Seasons("week", {"A": SEASON}), **SHORT
-)
-LITTLE = item_of(counts=(0, 1, *[0] * 102), first=2817, group="A")
 
 
 @pytest.fixture(scope="module")

@@ -15,8 +15,6 @@ import pandas as pd
 import pytest
 
 from crnplan.demand.index import Index
-from crnplan.demand.rate import at_rate
-from crnplan.law import Law
 from crnplan.plan.aims import FILLS, Aims, Trial
 from crnplan.plan.answer import BOUNDED, CHEAPER, RUN, SAME, UNDECIDED, Answer, YearPart
 from crnplan.plan.choice import allowed_by, choice_of

@@ -15,10 +15,8 @@ from crnplan.demand.index import Index
 from crnplan.demand.learning import Prior
 from crnplan.money import Currency
 from crnplan.plan.aims import FILLS, Aims, Tried
-from crnplan.plan.answer import Answer
 from crnplan.plan.backtest.methods import Walk
 from crnplan.plan.backtest.one import Backtest, backtest_item
-from crnplan.plan.correction import tried_names
 from crnplan.plan.item import Depth
 from crnplan.plan.offers import Asked, Offer, offer_of, past_of
 from crnplan.plan.one import or_fault, plan_one

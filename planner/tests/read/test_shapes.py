@@ -12,7 +12,6 @@ import pytest
 
 import crnplan as crn
 from crnplan.errors import RefusedFaults
-from crnplan.read.item import Item
 from planner.tests.read.catalogues import MASTER, items_of
 
 WEEKS = pd.date_range("2025-01-06", periods=30, freq="W-MON")

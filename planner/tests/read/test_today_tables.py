@@ -2,7 +2,6 @@
 worked by hand."""
 from __future__ import annotations
 
-from fractions import Fraction
 from pathlib import Path
 from typing import Any
 

@@ -31,7 +31,6 @@ from planner.tests.theory.scenarios import Weights, scenario_of, table
 POLICIES = [crn.Policy.of_levels(*it) for it in [(0, 6), (2, 5), (3, 3), (6, 8)]]
 # Laws of 0 to 40 items that lie on no lattice.
 WIDE = dict(enumerate([9, 3, 7, 1, 4] * 8 + [1]))
-SKEWED = {0: 900, 1: 40, 2: 30, 3: 20, 5: 10, 8: 9, 13: 8, 21: 7, 34: 6}
 FALLING = {value: 41 - value for value in range(41)}
 SPARSE = {0: 5, 1: 3, 2: 2, 5: 1}
 COSTS = crn.Costs(30, 0, 2, 9)

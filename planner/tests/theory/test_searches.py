@@ -7,14 +7,13 @@ import random
 import numpy as np
 import pytest
 
-from crnplan.policies import Policy
 from crnplan.money import Costs
 from crnplan.runs import Scenario
 from crnplan.theory.feasible import ALL, Feasible
 from crnplan.theory.grid import search
 from crnplan.theory.lattice import shape_of, theory_on
 from crnplan.theory.long_run import NO_POLICY
-from crnplan.theory.many_laws import Promises, figures_of_laws
+from crnplan.theory.many_laws import Promises
 from crnplan.theory.suggestions import MOST_EXCESS
 from planner.tests.theory.all_pairs import all_pairs, check, kept_of, theory_within
 from planner.tests.theory.chain import by_chain
