@@ -4,6 +4,7 @@ from __future__ import annotations
 import inspect
 import pickle
 from collections.abc import Callable
+from fractions import Fraction
 from pathlib import Path
 from typing import Any
 
@@ -12,7 +13,7 @@ import pytest
 
 import crnplan as crn
 from crnplan.errors import Refused
-from crnplan.given import COMMON
+from crnplan.given import COMMON, joined
 from crnplan.vocabulary import words_of
 from planner.tests.test_call_words import FAST, MASTERS, SALES
 
@@ -59,6 +60,19 @@ def test_what_is_said_twice() -> None:
     reading = crn.Reading(every="month", units=units)
     read = crn.read_catalogue(SALES, MASTERS, every=None, reading=reading, jobs=1)  # type: ignore[arg-type]
     assert read.fact("every") == "month"
+
+
+def test_a_word_of_both_values() -> None:
+    """`fill` is read into both values from one word: that counts as said once, and beside them it is said twice."""
+    of_both: Any = {
+        "reading": crn.Reading(fill=0.9),
+        "settings": crn.Settings(fill=0.9),
+    }
+    assert joined({"seed": 3}, **of_both) == {"seed": 3, "fill": Fraction(9, 10)}
+    with pytest.raises(Refused, match="fill is said by itself and in reading"):
+        joined({"fill": 0.9}, **of_both)
+    with pytest.raises(Refused, match="fill is said by itself and in settings"):
+        joined({"fill": 0.9}, settings=of_both["settings"])
 
 
 def test_values_are_judged_and_compared() -> None:
