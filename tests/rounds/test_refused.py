@@ -16,7 +16,7 @@ from shutil import copy2, which
 
 import pytest
 
-from tests.rounds.test_rounds import Said, write
+from tests.rounds.small_crate import Said, write
 
 LOW = """//! A constant.
 pub fn step() -> u64

@@ -12,7 +12,7 @@ from werkzeug.test import TestResponse
 
 from crnplan.desk import kept
 from planner.tests.desk.conftest import MADE_PLAN, Planner, file_of
-from planner.tests.desk.test_desk_orders import (
+from planner.tests.desk.today import (
     ITEMS,
     Levels,
     Shown,

@@ -14,7 +14,7 @@ from werkzeug.test import TestResponse
 from crnplan.desk.kept import FILES, STATE, State
 from crnplan.store.files import Folder, faults_of
 from planner.tests.desk.conftest import Planner, file_of, opened
-from planner.tests.desk.test_desk_orders import Levels, Shown, levels
+from planner.tests.desk.today import Levels, Shown, levels
 
 __all__ = ["levels"]
 STOCK = b"item,stock\nA,3\n"

@@ -12,7 +12,7 @@ from crnplan.desk import kept, orders as module
 from crnplan.desk.kept import Placed
 from crnplan.desk.today_files import TodayFiles
 from planner.tests.desk.conftest import Planner
-from planner.tests.desk.test_desk_orders import Shown, levels, shown, table_of
+from planner.tests.desk.today import Shown, levels, shown, table_of
 
 __all__ = ["levels", "shown"]
 

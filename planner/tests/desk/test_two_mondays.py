@@ -20,7 +20,7 @@ from crnplan.desk.front import Front
 from crnplan.read.bounds import OrderBounds
 from planner.tests.conftest import Command
 from planner.tests.desk.conftest import Planner, add_made_plan, file_of
-from planner.tests.desk.test_desk_orders import Shown
+from planner.tests.desk.today import Shown
 from planner.tests.show import made_catalogue
 
 ITEMS = 24
