@@ -1,9 +1,11 @@
-"""Fixtures of the tests of the program: folders and small C libraries."""
+"""Fixtures of the tests of the program: folders, small C libraries, and the tools as modules."""
 from __future__ import annotations
 
+import importlib
 import shutil
 from collections.abc import Callable
 from pathlib import Path
+from typing import Any
 
 import pytest
 
@@ -11,6 +13,7 @@ from tests.runs import library
 
 HERE = Path(__file__).resolve().parent
 Compiler = Callable[[Path], Path]
+Tool = Callable[[str], Any]
 
 
 @pytest.fixture
@@ -39,3 +42,15 @@ def compiled(tmp_path_factory: pytest.TempPathFactory) -> Compiler:
 def preload_library(compiled: Compiler) -> Path:
     """Returns the library of preload.c, which counts a run's requests, refuses some and holds its threads."""
     return compiled(HERE / "preload.c")
+
+
+@pytest.fixture(scope="session")
+def tool(top: Path) -> Tool:
+    """Returns a function that imports a tool. It imports modules that stand beside it."""
+
+    def imported(name: str) -> Any:
+        with pytest.MonkeyPatch.context() as patch:
+            patch.syspath_prepend(top / "tools")
+            return importlib.import_module(name)
+
+    return imported

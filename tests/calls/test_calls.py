@@ -1,12 +1,12 @@
 """The functions of the program call and make what calls.toml says, and no more that a contract does not see."""
 from __future__ import annotations
 
-import importlib
 import json
 import re
 import shutil
 import tomllib
 from collections import Counter
+from collections.abc import Callable
 from fnmatch import filter as matching
 from fnmatch import fnmatchcase
 from pathlib import Path
@@ -54,11 +54,9 @@ def pins() -> Pins:
 
 
 @pytest.fixture(scope="module")
-def uses(top: Path) -> list[Use]:
+def uses(top: Path, tool: Callable[[str], Any]) -> list[Use]:
     """Returns all uses of the program's libraries. These must have been proved as they are."""
-    with pytest.MonkeyPatch.context() as patch:
-        patch.syspath_prepend(top / "tools")
-        kit = importlib.import_module("rounds").load_kit()
+    kit = tool("rounds").load_kit()
     for name in libraries(top):
         crate = kit.Crate(f"{top}/crates/{name}", str(top), {})
         stamp = kit.text_of(f"{crate.folder}/out/rlib/stamp")

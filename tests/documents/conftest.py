@@ -1,9 +1,10 @@
-"""Fixtures of the tests of pages: the program as a page asks it, and a folder in which a page's commands are run."""
+"""Fixtures of the tests of pages: the program as a page asks it, a folder in which a page's commands are run, and the
+definitions of the repository."""
 from __future__ import annotations
 
 from collections.abc import Callable
 from pathlib import Path
-from typing import NamedTuple
+from typing import Any, NamedTuple
 
 import pytest
 from crnplan import formats
@@ -73,3 +74,15 @@ def judge(ask: Ask) -> Callable[[str, int], bool | str]:
 def folder(program: Path, room: Path) -> Folder:
     """Returns a folder with a copy of the examples and pages, in which the commands of a page can be run."""
     return Folder(room / "top", program)
+
+
+@pytest.fixture(scope="session")
+def definitions(tool: Callable[[str], Any]) -> Any:
+    """Returns the tool that finds definitions."""
+    return tool("definitions")
+
+
+@pytest.fixture(scope="module")
+def repository(definitions: Any) -> Any:
+    """Returns the definitions of the repository."""
+    return definitions.Repository()

@@ -4,7 +4,6 @@ The parts of pages that tools/definitions.py writes are as it writes them, and i
 """
 from __future__ import annotations
 
-import importlib
 import re
 import tomllib
 from pathlib import Path
@@ -13,20 +12,6 @@ from typing import Any
 import pytest
 
 from tests.documents.markdown import text_of
-
-
-@pytest.fixture(scope="module")
-def definitions(top: Path) -> Any:
-    """Returns the tool that finds definitions. It imports modules that stand beside it."""
-    with pytest.MonkeyPatch.context() as patch:
-        patch.syspath_prepend(top / "tools")
-        return importlib.import_module("definitions")
-
-
-@pytest.fixture(scope="module")
-def repository(definitions: Any) -> Any:
-    """Returns the definitions of the repository."""
-    return definitions.Repository()
 
 
 @pytest.fixture(scope="module")

@@ -1,7 +1,6 @@
 """docs/sentences.toml says of each sentence that is proved what carries it, and what it names is there."""
 from __future__ import annotations
 
-import importlib
 import re
 import tomllib
 from collections.abc import Callable
@@ -111,11 +110,9 @@ def has_test(name: str) -> bool:
 
 
 @pytest.fixture(scope="module")
-def carriers(top: Path) -> Carriers:
+def carriers(definitions: Any) -> Carriers:
     """Returns what can carry a sentence."""
-    with pytest.MonkeyPatch.context() as patch:
-        patch.syspath_prepend(top / "tools")
-        return Carriers(importlib.import_module("definitions"))
+    return Carriers(definitions)
 
 
 @pytest.mark.parametrize("page", TABLE)

@@ -1,9 +1,9 @@
 """docs/STATEMENT.md is what tools/statement.py writes, and names all that the program is proved over."""
 from __future__ import annotations
 
-import importlib
 import re
 import subprocess
+from collections.abc import Callable
 from pathlib import Path
 from types import SimpleNamespace
 from typing import Any
@@ -17,17 +17,9 @@ VERSION = "kit-1 logic abc\n"
 
 
 @pytest.fixture(scope="module")
-def statement(top: Path) -> Any:
-    """Returns the tool. It imports a module that stands beside it."""
-    with pytest.MonkeyPatch.context() as patch:
-        patch.syspath_prepend(top / "tools")
-        return importlib.import_module("statement")
-
-
-@pytest.fixture(scope="module")
-def repository(statement: Any) -> Any:
-    """Returns the definitions of the repository."""
-    return statement.Repository()
+def statement(tool: Callable[[str], Any]) -> Any:
+    """Returns the tool that writes the page."""
+    return tool("statement")
 
 
 def test_page_is_generated(statement: Any, repository: Any) -> None:

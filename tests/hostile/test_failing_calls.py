@@ -5,10 +5,10 @@ The library is tests/preload.c, which also lets each call move a few bytes only.
 from __future__ import annotations
 
 from collections.abc import Iterator
-from pathlib import Path
 
 import pytest
 
+from tests.hostile.conftest import Counted
 from tests.hostile.known import (
     COMMANDS,
     READING,
@@ -19,7 +19,6 @@ from tests.hostile.known import (
     named,
     unlike,
 )
-from tests.hostile.test_refusals import counted
 from tests.runs import as_wanted
 
 # The most bytes of a read.
@@ -39,36 +38,18 @@ def reads_of(command: Command) -> int:
 
 @pytest.mark.parametrize("command", READERS, ids=named)
 def test_reads_that_fail(
-    program: Path,
-    preload_library: Path,
-    room: Path,
-    check_all: CheckAll,
-    command: Command,
+    run_command: Counted, check_all: CheckAll, command: Command
 ) -> None:
     """Each read fails in turn: that is reported, nothing is read after it and nothing is written."""
 
     def cases() -> Iterator[Case]:
-        its, reads = command.in_room(room), reads_of(command)
+        reads = reads_of(command)
         for number in range(1, reads + 1):
-            shown, counts = counted(
-                program,
-                its,
-                preload_library,
-                room,
-                refuse_read=number,
-                most_bytes=PIECE,
-            )
+            shown, counts = run_command(command, refuse_read=number, most_bytes=PIECE)
             yield f"read {number}", as_wanted(shown, READING)
             yield f"reads up to {number}", counts is not None and counts.reads == number
-        shown, _ = counted(
-            program,
-            its,
-            preload_library,
-            room,
-            refuse_read=reads + 1,
-            most_bytes=PIECE,
-        )
-        yield f"all {reads} reads", its.verdict(shown)
+        shown, _ = run_command(command, refuse_read=reads + 1, most_bytes=PIECE)
+        yield f"all {reads} reads", command.verdict(shown)
 
     check_all(cases())
 
@@ -76,26 +57,17 @@ def test_reads_that_fail(
 @pytest.mark.parametrize("rule", ["refuse_write", "take_none"])
 @pytest.mark.parametrize("command", WRITERS, ids=named)
 def test_writes_that_fail(
-    program: Path,
-    preload_library: Path,
-    room: Path,
-    check_all: CheckAll,
-    command: Command,
-    rule: str,
+    run_command: Counted, check_all: CheckAll, command: Command, rule: str
 ) -> None:
     """Each write takes one byte, and each in turn fails or takes none: that is reported after the bytes before it."""
 
     def cases() -> Iterator[Case]:
-        its, whole = command.in_room(room), command.output or b""
+        whole = command.output or b""
         for number in range(1, len(whole) + 1):
-            shown, _ = counted(
-                program, its, preload_library, room, most_bytes=1, **{rule: number}
-            )
+            shown, _ = run_command(command, most_bytes=1, **{rule: number})
             wanted = WRITING._replace(output=whole[: number - 1])
             yield f"write {number}", as_wanted(shown, wanted)
-        shown, _ = counted(
-            program, its, preload_library, room, most_bytes=1, **{rule: len(whole) + 1}
-        )
-        yield f"all {len(whole)} writes", its.is_right(shown) or unlike(shown)
+        shown, _ = run_command(command, most_bytes=1, **{rule: len(whole) + 1})
+        yield f"all {len(whole)} writes", command.is_right(shown) or unlike(shown)
 
     check_all(cases())

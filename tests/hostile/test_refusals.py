@@ -5,10 +5,10 @@ The library is tests/preload.c.
 from __future__ import annotations
 
 from collections.abc import Iterator
-from pathlib import Path
 
 import pytest
 
+from tests.hostile.conftest import Counted
 from tests.hostile.known import (
     COMMANDS,
     MEMORY,
@@ -23,7 +23,7 @@ from tests.hostile.known import (
     runs_of_policies,
     unlike,
 )
-from tests.preload import Counts, counts_of, environment
+from tests.preload import Counts
 from tests.runs import Shown
 
 BASE = base_commands()
@@ -31,24 +31,6 @@ BASE = base_commands()
 STARTED = BASE + [it for count in (1, 2, 3, 16) for it in runs_of_policies(count)]
 # More requests for memory than any of these runs makes: a run that never succeeds without a refusal ends here.
 MOST = 5000
-
-
-def counted(
-    program: Path, command: Command, library: Path, room: Path, **rules: object
-) -> tuple[Shown, Counts | None]:
-    """Runs a command under rules such as refuse_memory=3. Returns what it shows, and what was counted.
-
-    The counts are None if the process did not come to its end.
-    """
-    file = room / "counts"
-    file.unlink(missing_ok=True)
-    shown = run(
-        program,
-        command.words,
-        command.data,
-        environment=environment(str(library), str(file), **rules),
-    )
-    return shown, counts_of(str(file))
 
 
 def keeps_nothing(counts: Counts | None) -> bool | str:
@@ -96,9 +78,7 @@ def without_memory(
 @pytest.mark.parametrize("onward", ["", "+"], ids=["one", "all_later"])
 @pytest.mark.parametrize("command", BASE + COMMANDS + refused_commands(), ids=named)
 def test_refused_memory(
-    program: Path,
-    preload_library: Path,
-    room: Path,
+    run_command: Counted,
     check_all: CheckAll,
     command: Command,
     onward: str,
@@ -109,23 +89,22 @@ def test_refused_memory(
     """
 
     def cases() -> Iterator[Case]:
-        its = command.in_room(room)
-        _, whole = counted(program, its, preload_library, room)
+        _, whole = run_command(command)
         assert whole
-        yield "its starts", len(whole.starts) == its.starts
+        yield "its starts", len(whole.starts) == command.starts
         for number in range(1, MOST):
-            shown, counts = counted(
-                program, its, preload_library, room, refuse_memory=f"{number}{onward}"
-            )
+            shown, counts = run_command(command, refuse_memory=f"{number}{onward}")
             if (counts and not counts.memory_refused) or (
-                not counts and its.is_right(shown)
+                not counts and command.is_right(shown)
             ):
                 break
             yield f"memory {number}{onward}", without_memory(
-                its, shown, counts, whole.start_of(number)
+                command, shown, counts, whole.start_of(number)
             )
         right = (
-            its.is_right(shown) and counts is not None and counts.memory == number - 1
+            command.is_right(shown)
+            and counts is not None
+            and counts.memory == number - 1
         )
         yield f"all {number - 1} requests", right or unlike(shown)
 
@@ -134,20 +113,13 @@ def test_refused_memory(
 
 @pytest.mark.parametrize("command", [it for it in STARTED if it.starts], ids=named)
 def test_refused_starts(
-    program: Path,
-    preload_library: Path,
-    room: Path,
-    check_all: CheckAll,
-    command: Command,
+    run_command: Counted, check_all: CheckAll, command: Command
 ) -> None:
     """Each start of a thread is refused in turn: no other is asked for after it."""
 
     def cases() -> Iterator[Case]:
-        its = command.in_room(room)
-        for number in range(1, its.starts + 1):
-            shown, counts = counted(
-                program, its, preload_library, room, refuse_thread=number
-            )
+        for number in range(1, command.starts + 1):
+            shown, counts = run_command(command, refuse_thread=number)
             yield f"thread {number}", unlike(shown) if shown != THREAD else has_threads(
                 counts, number, number - 1
             )
@@ -156,13 +128,8 @@ def test_refused_starts(
 
 
 @pytest.mark.parametrize("command", STARTED, ids=named)
-def test_no_refusal(
-    program: Path, preload_library: Path, room: Path, command: Command
-) -> None:
+def test_no_refusal(run_command: Counted, command: Command) -> None:
     """A run without a refusal starts a thread for each policy, `lanes` none, and no other."""
-    its = command.in_room(room)
-    shown, counts = counted(
-        program, its, preload_library, room, refuse_thread=its.starts + 1
-    )
-    assert its.is_right(shown), unlike(shown)
-    assert has_threads(counts, its.starts, its.starts) is True
+    shown, counts = run_command(command, refuse_thread=command.starts + 1)
+    assert command.is_right(shown), unlike(shown)
+    assert has_threads(counts, command.starts, command.starts) is True

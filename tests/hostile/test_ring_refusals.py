@@ -8,13 +8,14 @@ A caller of uses ends with a fault if its thread is refused.
 """
 from __future__ import annotations
 
-from collections.abc import Callable, Iterator
+from collections.abc import Iterator
 from pathlib import Path
 
 import pytest
 
+from tests.hostile.conftest import Counted, counted
 from tests.hostile.known import Case, CheckAll, Command, unlike
-from tests.hostile.test_refusals import MOST, counted, has_threads, keeps_nothing
+from tests.hostile.test_refusals import MOST, has_threads, keeps_nothing
 from tests.preload import Counts
 from tests.runs import Shown
 
@@ -26,8 +27,6 @@ FAULT = "run::refusals::a_run_prints_its_fault"
 STARTS = {RUN: 4, FAULT: 2}
 # The numbers of the faults of a run, as its contract has them.
 NO_FAULT, THREAD_FAULT, MEMORY_FAULT = 0, 1, 90
-
-Counted = Callable[..., tuple[Shown, Counts | None]]
 
 
 @pytest.fixture

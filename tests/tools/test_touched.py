@@ -155,7 +155,7 @@ def test_lines_of_each_test(tmp_path: Path) -> None:
     only.write_text("\n".join([here, out, started]), "utf-8")
     words = [table, process, "--only", only, "--lines", tmp_path, "--mapped"]
     command = [sys.executable, "-m", "pytest", "-q", *words]
-    # A run that measures this test measures none of its own.
+    # If this test is measured, these variables would start that measurement in the run below too.
     outside = {*os.environ} - {"COVERAGE_PROCESS_START", "CRNPLAN_TEST"}
     known = {name: os.environ[name] for name in outside}
     subprocess.run(command, cwd=TOP, env=known, check=True)
