@@ -12,7 +12,7 @@ brand, in cases of 24 units, weekly cases of diseases, and homes by city and mon
 - `together`: all items by one price of what is not met at once, by the same laws.
 - `smoothed`: exponential smoothing of mean and error with a normal safety stock, each item by itself.
 - `mean`: the mean of the levels of `together` and `smoothed`, of a price and a fill rate at the same place.
-- `followed`: as `together`, by the law of the last periods at their level, as `crnplan plan --set follow=auto` has it. The
+- `followed`: as `together`, by the law of the last periods at their level, as `crnplan plan` has it. The
   weight of the smoothed level is that of the class by the records; `half` and `wholly` have a fixed one.
 - `damped trend`: as `followed`, with a trend in the smoothed level that fades (Gardner and McKenzie, Forecasting trends
   in time series, 1985).

@@ -2,7 +2,7 @@
 
 - `item`: each item meets a share, as `crnplan plan --fill` has it; `item, flat` without seasons.
 - `together`: one price of what is not met at once for all items, as `--together` has it.
-- `follow`: `--set follow=auto` beside either; `borrow`: laws learned from all items, `empirical`: laws that are the record.
+- `follow`: as `crnplan plan` follows levels, beside either; `borrow`: laws learned from all items, `empirical`: laws that are the record.
 """
 from __future__ import annotations
 

@@ -141,6 +141,12 @@ def shared(
     return Path(shutil.copytree(place, copy, symlinks=True, ignore=passing))
 
 
+def state_of(folder: Path) -> dict[Path, tuple[bytes, int]]:
+    """Returns the bytes of all files below a folder, and when they were written."""
+    files = [path for path in folder.rglob("*") if path.is_file()]
+    return {path: (path.read_bytes(), path.stat().st_mtime_ns) for path in files}
+
+
 def rows_of(
     path: Path, key: str = "item", kind: str = "", delimiter: str = ","
 ) -> dict[str, dict[str, str]]:
@@ -186,6 +192,13 @@ def shared_cluster(
     yield cluster
     cluster.end_all()
     assert cluster.have_all_ended()
+
+
+@pytest.fixture
+def room(made: Path, tmp_path: Path, monkeypatch: pytest.MonkeyPatch) -> Path:
+    """Returns a folder of its own with what is in `made`, where no settings are."""
+    monkeypatch.chdir(tmp_path)
+    return Path(shutil.copytree(made, tmp_path / "room"))
 
 
 @pytest.fixture(scope="session")

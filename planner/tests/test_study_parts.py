@@ -25,6 +25,7 @@ from planner.studies.made_catalogues import (
     poisson,
 )
 from planner.tests.demand.made import chances_of
+from planner.tests.plan.items import stocks_of
 from planner.tests.theory.long_run_costs import costs_of, fills_of, shortfall_of
 
 # Means and variances of the true laws, as their names say.
@@ -216,15 +217,12 @@ def simulated_cost(
 
     Orders count in the first `used` periods, and the stock `lead` periods later.
     """
-    stock, due, position, total = level, [0] * (len(demand) + lead), level, 0.0
-    for period, amount in enumerate(demand):
-        if position < low:
-            due[period + lead] += level - position
-            position, total = level, total + costs[0] * (period < used)
-        stock += due[period] - amount
-        position -= amount
+    total = 0.0
+    walk = stocks_of((low, level), demand, lead, level)
+    for period, (order, end) in enumerate(walk):
+        total += costs[0] * (order > 0 and period < used)
         if lead <= period < used + lead:
-            total += max(stock, 0) + costs[1] * max(-stock, 0)
+            total += max(end, 0) + costs[1] * max(-end, 0)
     return total / used
 
 

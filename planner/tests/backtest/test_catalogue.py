@@ -5,7 +5,6 @@ import contextlib
 import csv
 import dataclasses
 import datetime
-import shutil
 from collections.abc import Mapping
 from pathlib import Path
 from typing import Any
@@ -70,13 +69,6 @@ def made(items: Mapping[str, Item], tmp_path_factory: pytest.TempPathFactory) ->
 
 def read(folder: Path) -> dict[str, bytes]:
     return {name: (folder / name).read_bytes() for name in FILES}
-
-
-@pytest.fixture
-def room(made: Path, tmp_path: Path, monkeypatch: pytest.MonkeyPatch) -> Path:
-    """Returns a folder of its own with the same, where no settings are."""
-    monkeypatch.chdir(tmp_path)
-    return Path(shutil.copytree(made, tmp_path / "room"))
 
 
 def test_same_bytes_whatever_the_workers(room: Path, crnplan: Command) -> None:

@@ -34,7 +34,7 @@ from planner.tests.catalogue.months import (
 from planner.tests.conftest import Command
 from planner.tests.planned_tables import whole_frame
 from planner.tests.show.page_reader import Page
-from planner.tests.plan.items import item_of
+from planner.tests.plan.items import item_of, stocks_of, unmet_of
 
 FILES = "decisions.csv", "details.csv", "changes.csv", "summary.txt", "report.html"
 
@@ -174,23 +174,12 @@ def simulated(
 ) -> tuple[float, float]:
     """Returns the mean cost and the share of demand met at once of the last periods, by a program of its own: for an
     item with one lead time and no returns."""
-    (lead,), (s, S), stock, arriving = item.leads, levels, start, dict[int, int]()
-    cost, met, asked = Fraction(0), 0, 0
-    for period, demand in enumerate(item.counts):
-        stock += arriving.pop(period, 0)
-        position, ordered = stock + sum(arriving.values()), 0
-        if position < s:
-            ordered = arriving[period + lead] = S - position
-        served = min(demand, max(stock, 0))
-        stock -= demand
-        if period >= len(item.counts) - since:
-            cost += (
-                item.setup * (ordered > 0)
-                + item.holding * max(stock, 0)
-                + (item.backlog or 0) * max(-stock, 0)
-            )
-            met, asked = met + served, asked + demand
-    return float(cost / since), met / asked if asked else math.nan
+    (lead,), cost, asked = item.leads, Fraction(0), sum(item.counts[-since:])
+    for order, end in [*stocks_of(levels, item.counts, lead, start)][-since:]:
+        cost += item.setup * (order > 0) + item.holding * max(end, 0)
+        cost += (item.backlog or 0) * max(-end, 0)
+    unmet = sum(unmet_of(levels, item.counts, lead, start)[-since:])
+    return float(cost / since), 1 - unmet / asked if asked else math.nan
 
 
 def test_what_came_of_the_earlier_plan(month: Month, dozen: Mapping[str, Item]) -> None:

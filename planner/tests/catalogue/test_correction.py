@@ -5,7 +5,6 @@ import dataclasses
 import datetime
 import math
 import re
-import shutil
 from collections.abc import Sequence
 from fractions import Fraction
 from pathlib import Path
@@ -68,13 +67,6 @@ def made(tmp_path_factory: pytest.TempPathFactory, program: Path) -> Path:
         crn.plan(*write(room, COUNT), out=room / "plan", **words)
 
     return shared(tmp_path_factory, "correction", make)
-
-
-@pytest.fixture
-def room(made: Path, tmp_path: Path, monkeypatch: pytest.MonkeyPatch) -> Path:
-    """Returns a folder of its own with the same, where no settings are."""
-    monkeypatch.chdir(tmp_path)
-    return Path(shutil.copytree(made, tmp_path / "room"))
 
 
 def read(folder: Path) -> dict[str, bytes]:

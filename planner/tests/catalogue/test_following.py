@@ -1,6 +1,7 @@
 """Tests catalogues whose level moves: what is learned and kept, plans at the level, and words on it."""
 from __future__ import annotations
 
+import datetime
 import shutil
 from pathlib import Path
 from typing import Any
@@ -13,9 +14,12 @@ import crnplan as crn
 from crnplan.demand.level import BlockSums, factor_of, weight_of
 from crnplan.plan.answer import Answer
 from crnplan.plan.catalogue import planned_folder
+from crnplan.plan.item import Depth
 from crnplan.plan.learned import FOLLOWING
+from crnplan.plan.what_ifs import asked_figures
+from crnplan.show.item_plots import history_plot
 from planner.tests.conftest import Command, shared
-from planner.tests.plan.items import SHORT, item_of, tables_of
+from planner.tests.plan.items import SHORT, START, item_of, tables_of
 from planner.tests.planned_tables import whole_table
 
 ITEMS, WEEKS = 24, 80
@@ -37,16 +41,17 @@ COUNTS = [counts_of(place) for place in range(ITEMS)]
 
 @pytest.fixture(scope="module")
 def room(tmp_path_factory: pytest.TempPathFactory, program: Path) -> Path:
-    """Returns a folder with the tables, whose class b moves, their plan in `plan`, and that at the mean in `mean`."""
+    """Returns a folder with the tables, whose class b moves, their plan in `plan`, without a word, and that at the mean in
+    `mean`."""
 
     def make(folder: Path) -> None:
         items = [item_of(place, counts=counts) for place, counts in enumerate(COUNTS)]
         for name, table in zip(("demand", "items"), tables_of(items)):
             table.to_csv(folder / f"{name}.csv", index=False)
         tables = folder / "demand.csv", folder / "items.csv"
-        for name, follow in (("plan", "auto"), ("mean", "none")):
-            words = {**WORDS, "program": program, "follow": follow}
-            crn.plan(*tables, out=folder / name, **words)
+        words: dict[str, Any] = {**WORDS, "program": program}
+        crn.plan(*tables, out=folder / "plan", **words)
+        crn.plan(*tables, out=folder / "mean", follow="none", **words)
 
     return shared(tmp_path_factory, "following", make)
 
@@ -59,14 +64,12 @@ def test_plans_at_the_level(room: Path) -> None:
     weight = weight_of([BlockSums.of(counts) for counts in COUNTS[1::2]])
     assert weight > 0.5
     laws = list[list[float]]()
-    for name in ("plan", "mean"):
+    for name, weights in (("plan", {"b": weight}), ("mean", None)):
         with planned_folder(room / name) as planned:
             answers = [answer for _, answer in planned.answers()]
-            laws.append([one.law.mean for one in answers if isinstance(one, Answer)])
             following = planned.settings.following
-            assert (following and following.classes) == (
-                {"b": weight} if name == "plan" else None
-            )
+        laws.append([one.law.mean for one in answers if isinstance(one, Answer)])
+        assert (following and following.classes) == weights
     for place, name in [*enumerate(plan.index)][1::2]:
         factor = factor_of(COUNTS[place], weight)
         assert laws[0][place] / laws[1][place] == pytest.approx(factor, rel=2e-3)
@@ -74,18 +77,37 @@ def test_plans_at_the_level(room: Path) -> None:
     assert not mean["codes"].fillna("").str.contains("level followed").any()
 
 
+def test_one_law_wherever_it_is_shown(room: Path, program: Path) -> None:
+    """The day's orders, a what-if that changes nothing, and the picture have the law and the levels of the plan."""
+    with planned_folder(room / "plan") as planned:
+        item, answer = [*planned.answers()][1]
+        assert isinstance(answer, Answer)
+        asked = asked_figures(item, answer, planned.settings, None, None, None)
+        depth = Depth(planned.question(item), answer, str(program))
+    s, S = answer.chosen.levels
+    stock = pd.DataFrame({"item": [item.name], "stock": [s - 1]})
+    day = START + datetime.timedelta(weeks=WEEKS)
+    today = crn.open_plan(room / "plan").orders_today(stock, date=day)
+    order, *_ = today.frame.itertuples()
+    assert order.placed == S - s + 1
+    assert order.weeks == pytest.approx((s - 1) / answer.law.mean, rel=2e-3)
+    assert asked["chosen"].cost == pytest.approx(answer.chosen.cost)
+    plot = history_plot(depth, [], "week")
+    assert plot.lines[0].name == f"mean of the law: {answer.law.mean:.2f} a week"
+
+
 def test_command(room: Path, tmp_path: Path, crnplan: Command) -> None:
-    """The command plans as Python does, by several processes too; another word is refused."""
+    """The command plans as Python does, by several processes; another word is refused."""
     tables = [room / "demand.csv", room / "items.csv"]
     config = tmp_path / "short.toml"
     config.write_text("[catalogue]\nperiods = 64\nreplications = 4\n")
     words = "--every", "week", "--set", "borrow=none", "--config", config
     folder = tmp_path / "plan"
-    follow = "--set", "follow=auto", "--jobs", 2
+    follow = "--set", "follow=none", "--jobs", 2
     assert crnplan("plan", *tables, "--out", folder, *words, *follow).status == 0
     for name in FILES:
-        assert (folder / name).read_bytes() == (room / "plan" / name).read_bytes()
-    assert 'follow = "auto"' in (folder / "found.toml").read_text()
+        assert (folder / name).read_bytes() == (room / "mean" / name).read_bytes()
+    assert 'follow = "none"' in (folder / "found.toml").read_text()
     ran = crnplan("plan", *tables, "--out", folder, *words, "--set", "follow=x")
     assert ran.status == 2
 
@@ -97,7 +119,7 @@ def test_what_is_kept(room: Path, tmp_path: Path, program: Path) -> None:
     sales = tmp_path / "demand.csv"
     moved = whole_table(folder).query("`class` == 'b'").index
     demand[~demand["item"].isin(moved)].to_csv(sales, index=False)
-    words = {**WORDS, "program": program, "out": folder, "follow": "auto"}
+    words: dict[str, Any] = {**WORDS, "program": program, "out": folder}
     with planned_folder(folder) as planned:
         text = planned.store.fact(FOLLOWING)
     crn.plan(sales, room / "items.csv", **words)

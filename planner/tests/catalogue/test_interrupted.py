@@ -27,7 +27,14 @@ from crnplan.plan import catalogue
 from crnplan.plan.catalogue import ANSWERS
 from planner.tests.catalogue.conftest import FAST, FILES, TABLES, WORDS, leave_few
 from planner.tests.catalogue.made import Made, name_of, teaching
-from planner.tests.conftest import Answer, Command, heed_interrupts, script, shared
+from planner.tests.conftest import (
+    Answer,
+    Command,
+    heed_interrupts,
+    script,
+    shared,
+    state_of,
+)
 from planner.tests.store.clusters import SECONDS, Cluster
 
 # Two batches and a half. After so many runs of the program all others wait, so that a plan stops in its middle: one
@@ -322,12 +329,6 @@ def test_killed_after_an_earlier_plan(
     assert 0 < there < FEW
     assert tables(folder / "plan", names) == tables(folder / "at_once", names)
     assert state_of(earlier) == before
-
-
-def state_of(folder: Path) -> dict[Path, tuple[bytes, int]]:
-    """Returns the bytes of each file in a folder, and when it was changed."""
-    files = [path for path in folder.rglob("*") if path.is_file()]
-    return {path: (path.read_bytes(), path.stat().st_mtime_ns) for path in files}
 
 
 def all_files(folder: Path) -> dict[str, object]:

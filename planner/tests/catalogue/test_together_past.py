@@ -22,7 +22,7 @@ from crnplan.plan.drawn import DrawnItems
 from crnplan.plan.offers import Asked, ByPrice, Offer, met_on_past, past_of
 from crnplan.plan.prices import REST, Price
 from crnplan.plan.how import NONE, Settings
-from crnplan.plan.question import Levels, question_of
+from crnplan.plan.question import question_of
 from crnplan.plan.together import OnPast
 from crnplan.read.catalogue_reading import CATALOGUE
 from crnplan.read.item import Item
@@ -30,6 +30,7 @@ from crnplan.show.backtest_tables import past_line
 from crnplan.store.files import own_folder
 from crnplan.store.means import Means
 from planner.tests.catalogue.test_together import SETTINGS, made
+from planner.tests.plan.items import unmet_of
 from planner.tests.show.page_reader import Page
 
 COUNT, WANTED = 36, 0.9
@@ -56,23 +57,6 @@ def price_in(plan: crn.Plan) -> Price:
 def members(plan: crn.Plan) -> list[Item]:
     with planned_folder(plan.path) as folder:
         return [item for item in folder.read.items() if item.backlog is None]
-
-
-def unmet_of(
-    levels: Levels, demands: Sequence[int], lead: int, stock: int
-) -> list[int]:
-    """Returns what a policy does not meet at once in each period: an order is there so many periods later."""
-    (low, high), unmet = levels, list[int]()
-    due, position = [0] * (len(demands) + lead + 1), stock
-    for period, asked in enumerate(demands):
-        stock += due[period]
-        if position < low:
-            due[period + lead] += high - position
-            position = high
-        unmet.append(max(0, asked - max(0, stock)))
-        stock -= asked
-        position -= asked
-    return unmet
 
 
 def unmet_on_past(item: Item, price: float) -> float:

@@ -3,7 +3,7 @@ from __future__ import annotations
 
 import datetime
 import itertools
-from collections.abc import Iterable, Iterator
+from collections.abc import Iterable, Iterator, Sequence
 from fractions import Fraction
 from typing import Any
 
@@ -11,6 +11,7 @@ import numpy as np
 import pandas as pd
 
 from crnplan.plan.how import Settings
+from crnplan.policies import Levels
 from crnplan.read.item import Item
 
 # Short runs: a plan takes little time.
@@ -60,6 +61,29 @@ def several(count: int) -> Iterator[Item]:
 def alone(**changed: Any) -> Settings:
     """Returns settings of short runs by which an item learns from no other."""
     return Settings(borrow="none", **SHORT | changed)
+
+
+def stocks_of(
+    levels: Levels, demands: Sequence[int], lead: int | Sequence[int], stock: int
+) -> Iterator[tuple[int, int]]:
+    """Yields what a policy orders in each period, which is there so many periods later, or as many as each one says, and
+    the stock at its end."""
+    leads = np.broadcast_to(lead, len(demands)).tolist()
+    (s, S), due, position = levels, [0] * (len(demands) + max(leads) + 1), stock
+    for period, (asked, later) in enumerate(zip(demands, leads)):
+        order = S - position if position < s else 0
+        due[period + later] += order
+        stock += due[period] - asked
+        position += order - asked
+        yield order, stock
+
+
+def unmet_of(
+    levels: Levels, demands: Sequence[int], lead: int, stock: int
+) -> list[int]:
+    """Returns what a policy does not meet at once in each period."""
+    ends = stocks_of(levels, demands, lead, stock)
+    return [min(asked, max(0, -end)) for asked, (_, end) in zip(demands, ends)]
 
 
 def moves(item: Item) -> list[tuple[datetime.date, int, int]]:

@@ -4,7 +4,6 @@ from __future__ import annotations
 import dataclasses
 import json
 import math
-from collections.abc import Sequence
 from fractions import Fraction
 from types import SimpleNamespace
 from typing import Any
@@ -22,7 +21,7 @@ from crnplan.plan.question import Levels
 from crnplan.read.item import Item
 from crnplan.theory.long_run import Candidate, LongRun
 from crnplan.store.trees import value_of
-from planner.tests.plan.items import item_of
+from planner.tests.plan.items import item_of, unmet_of
 
 LEAD, WEEKS, ITEMS, LONG = 2, 20, 60, 500
 OWN = Settings(fit="empirical", borrow=NONE)
@@ -73,21 +72,6 @@ def test_blocks_by_hand() -> None:
     assert (item.counts, item.returns) == ((1, 4), ())
 
 
-def unmet_of(levels: Levels, demands: Sequence[int]) -> float:
-    """Returns what a policy does not meet at once: an order that is placed in a period is there two periods later."""
-    (low, high), unmet, due = levels, 0, [0] * (len(demands) + LEAD + 1)
-    stock = position = high
-    for week, asked in enumerate(demands):
-        stock += due[week]
-        if position < low:
-            due[week + LEAD] += high - position
-            position = high
-        unmet += max(0, asked - max(0, stock))
-        stock -= asked
-        position -= asked
-    return unmet
-
-
 def drawn(random: np.random.Generator, periods: int) -> list[int]:
     """Draws demand of mean 4 and variance 28 / 3."""
     return [*map(int, random.negative_binomial(3, 3 / 7, periods))]
@@ -121,7 +105,10 @@ def test_trials_say_what_comes(monkeypatch: pytest.MonkeyPatch) -> None:
     for item in map(made, range(ITEMS)):
         trial = trial_of(item, OWN, Prior(NONE))
         coming = [
-            sum(unmet_of(policies[place], fresh) for policies in plans[-BLOCKS:])
+            sum(
+                sum(unmet_of(policies[place], fresh, LEAD, policies[place][1]))
+                for policies in plans[-BLOCKS:]
+            )
             / (BLOCKS * LONG * share)
             for place in range(len(FILLS))
         ]

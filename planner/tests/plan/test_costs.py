@@ -24,6 +24,7 @@ from crnplan.read.bounds import OrderBounds
 from crnplan.remarks import Remark
 from crnplan.store.trees import value_of
 from planner.studies import costs
+from planner.tests.plan.items import stocks_of
 
 LEAD, SETUP, HOLDING, BACKLOG = 2, 8, 2, 18
 OWN = Settings(fit="empirical", borrow=NONE)
@@ -45,19 +46,11 @@ def made(*quarters: tuple[int, ...]) -> Item:
 def costs_of(
     levels: tuple[int, int], demands: tuple[int, ...], stock: int
 ) -> list[int]:
-    """Returns what a policy costs in each period: an order that is placed in one is there two periods later."""
-    (low, high), position, costs = levels, stock, list[int]()
-    due = [0] * (len(demands) + LEAD + 1)
-    for period, asked in enumerate(demands):
-        stock += due[period]
-        cost = 0
-        if position < low:
-            due[period + LEAD] += high - position
-            position, cost = high, SETUP
-        stock -= asked
-        position -= asked
-        costs.append(cost + HOLDING * max(stock, 0) + BACKLOG * max(-stock, 0))
-    return costs
+    """Returns what a policy costs in each period."""
+    return [
+        SETUP * (order > 0) + HOLDING * max(end, 0) + BACKLOG * max(-end, 0)
+        for order, end in stocks_of(levels, demands, LEAD, stock)
+    ]
 
 
 @pytest.mark.parametrize("bounds", [OrderBounds(), OrderBounds(s_min=20)])

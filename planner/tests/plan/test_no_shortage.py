@@ -22,7 +22,7 @@ from crnplan.plan.what_ifs import what_if
 from crnplan.read.bounds import OrderBounds
 from crnplan.remarks import Remark
 from crnplan.sentences import sentence
-from planner.tests.plan.items import SHORT, alone, item_of, tables_of
+from planner.tests.plan.items import stocks_of, SHORT, alone, item_of, tables_of
 from planner.tests.planned_tables import whole_frame
 
 WANTED = Fraction(19, 20)
@@ -47,15 +47,8 @@ def short_of(question: Question, s: int, S: int) -> float:
     demands, leads = (
         source.choice([*law], PERIODS, p=[*map(float, law.values())]) for law in laws
     )
-    due, stock, position, short = np.zeros(PERIODS + 99, int), S, S, 0
-    for period in range(PERIODS):
-        if position < s:
-            due[period + leads[period]] += S - position
-            position = S
-        stock += due[period] - demands[period]
-        position -= demands[period]
-        short += stock < 0
-    return short / PERIODS
+    ends = stocks_of((s, S), demands.tolist(), leads.tolist(), S)
+    return sum(end < 0 for _, end in ends) / PERIODS
 
 
 @pytest.mark.parametrize(

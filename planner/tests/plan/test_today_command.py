@@ -23,7 +23,7 @@ from crnplan.read.item import NO_DEMAND
 from crnplan.read.items import Reading
 from crnplan.remarks import Remark
 from crnplan.show.today_tables import OrderDays, orders_today
-from planner.tests.conftest import Command
+from planner.tests.conftest import Command, state_of
 from planner.tests.planned_tables import whole_frame
 from planner.tests.show.made_catalogue import made_folder, made_pair
 from planner.tests.plan.test_today import CASES, FRIDAY, days
@@ -222,12 +222,6 @@ def test_stock_of_the_masters(
         base.execute("UPDATE items SET setup = '99'")
     said = "its plan is not as the rows that were read last; run crnplan plan again"
     assert crnplan("today", "plan").refuses(said)
-
-
-def state_of(folder: Path) -> dict[Path, tuple[bytes, int]]:
-    """Returns the bytes of all files below a folder, and when they were written."""
-    files = [path for path in folder.rglob("*") if path.is_file()]
-    return {path: (path.read_bytes(), path.stat().st_mtime_ns) for path in files}
 
 
 def test_command(

@@ -113,7 +113,7 @@ class Settings(Vocabulary):
     )
     follow: str = word(
         choice(*SEASON_WAYS),
-        NONE,
+        AUTO,
         "Plan items at the level of their last periods, as far as the past of their class says that what comes follows it "
         "(auto), or at that of their record (none).",
     )

@@ -20,7 +20,7 @@ CONFIG = "crnplan.toml"
 # Keys that there are no longer, and what to say in place of each.
 RETIRED = {
     "weigh": "items that are planned together weigh by value, so give them a price",
-    "window": "say follow=auto, or by from=DATE where the record begins",
+    "window": "plans follow levels; or say by from=DATE where the record begins",
 }
 
 
