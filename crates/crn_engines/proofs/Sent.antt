@@ -1,6 +1,5 @@
 -- What an engine answers, once its text is made.
-use Rattle.std.proofs.Common.{◌≡◌, ℕ, List, Option, Result, Ok, Err, IfOk, IfErr, OnOk, OnErr, sym, subst}
-use Rattle.std.specs.Prelude.{IsErr, IsErrAnd}
+use Rattle.std.proofs.Common.{◌≡◌, ℕ, List, Option, Result, Ok, Err, IfOk, IfErr, OnOk, OnErr, sym, subst, IsErr, IsErrAnd}
 use Rattle.std.specs.Io.KnownBytes.{Appends}
 use Rattle.crn_engines.specs.Bytes.{AppendsFront, Wrote, WroteFrontOf}
 
@@ -9,11 +8,6 @@ module _ {T E : Type 0} where
   pub handed : (r : Result T E) (e : E) (P : E → Type 0) → IsErr r × IsErrAnd r (λ f. f ≡ e) → P e → IfErr r P
   handed (Ok x) e P h holds = absurd (cc h.0)
   handed (Err f) e P h holds = subst P (sym h.1) holds
-
-  -- a result that hands a fault on is of that fault alone, and so was the result that it came from
-  pub handed_fault : {U : Type 0} (r : Result T E) (e f : E) → IsErr r × IsErrAnd r (λ g. g ≡ e) → r ≡ Err f → ◌≡◌ {A = Result U E} (Err e) (Err f)
-  handed_fault {U} (Ok x) e f h is = absurd (cc is)
-  handed_fault {U} (Err g) e f h is = cc (h.1, is)
 
 module _ (Made : List ℕ → Type 0) (held held' : Option (List ℕ)) (text : List ℕ) (made : Made text) where
   -- the text that was made went out
