@@ -1,11 +1,7 @@
 -- The words of a block as one list, and in their streams.
 use Rattle.std.proofs.Common.{◌≡◌, ◌≢◌, ℕ, ◌+◌, ◌-◌, ◌<◌, ◌≤◌, ◌^◌, List, [], ◌∷◌, ◌++◌, length, slice_index, refl, sym, ap, ◌∙◌, arith, lit<}
-use mathlib.Core.HLevel.{is_prop→PathP}
-use mathlib.Core.List.{is_set}
-use Rattle.std.proofs.Math.Nat.{ℕ_set}
 use Rattle.std.proofs.lemmas.List.{get_or_append_left, get_or-append_right}
 use Rattle.crn_cipher.specs.declared.TheConstants.{BLOCK_WORDS}
-use Rattle.crn_cipher.specs.declared.stream.Block.{Block}
 use Rattle.crn_cipher.specs.declared.stream.Stream.{Stream}
 use Rattle.crn_cipher.specs.declared.stream.Stream.TheVariants.{Demand, Lead, Returns}
 use Rattle.crn_cipher.specs.Cipher.{Threefry, key_step}
@@ -54,12 +50,8 @@ word_of_returns key n i above below =
 
 -- four words one by one
 four_are : (xs : List ℕ) → length xs ≡ 4 → slice_index xs 0 ∷ slice_index xs 1 ∷ slice_index xs 2 ∷ slice_index xs 3 ∷ [] ≡ xs
-four_are [] four = absurd (omega (arith, four))
-four_are (a ∷ []) four = absurd (omega (arith, four))
-four_are (a ∷ b ∷ []) four = absurd (omega (arith, four))
-four_are (a ∷ b ∷ c ∷ []) four = absurd (omega (arith, four))
 four_are (a ∷ b ∷ c ∷ d ∷ []) four = refl
-four_are (a ∷ b ∷ c ∷ d ∷ e ∷ rest) four = absurd (omega (arith, four))
+four_are xs four = absurd (omega (arith, four))
 
 -- a stream's words, where a block's words have them from a place on
 stream_of : (key words : List ℕ) (n from : ℕ) (s : Stream) → words ≡ BlockWords key n → ((i : ℕ) → i < 4 → slice_index (StreamWords key n s) i ≡ block_word key n (i + from))
@@ -86,34 +78,11 @@ returns_of key words n is = stream_of key words n 8 Returns is (λ i below.
     let back : i + 8 - 8 ≡ i = omega arith in
     ap (slice_index (StreamWords key n Returns)) (sym back) ∙ word_of_returns key n (i + 8) (omega arith) (omega (arith, below)))
 
--- ---- A block is determined by its key and its number.
-
-same_words : (key key' : List ℕ) (n n' : ℕ) (s : Stream) → key ≡ key' → n ≡ n' → StreamWords key n s ≡ StreamWords key' n' s
-same_words key key' n n' s key-is n-is = λ i. StreamWords (key-is i) (n-is i) s
-
-pub determined : (a b : Block) → a.key ≡ b.key → a.number ≡ b.number → a ≡ b
-determined a b key number =
-    let same = λ (s : Stream). same_words a.key b.key a.number b.number s key number in
-    let demand : a.demand ≡ b.demand = a.demand_words ∙ same Demand ∙ sym b.demand_words in
-    let lead : a.lead ≡ b.lead = a.lead_words ∙ same Lead ∙ sym b.lead_words in
-    let returns : a.returns ≡ b.returns = a.returns_words ∙ same Returns ∙ sym b.returns_words in
-    λ i. record {
-      key = key i;
-      number = number i;
-      demand = demand i;
-      lead = lead i;
-      returns = returns i;
-      demand_words = is_prop→PathP (λ j. demand j ≡ StreamWords (key j) (number j) Demand) (λ j. is_set ℕ_set (demand j) (StreamWords (key j) (number j) Demand)) a.demand_words b.demand_words i;
-      lead_words = is_prop→PathP (λ j. lead j ≡ StreamWords (key j) (number j) Lead) (λ j. is_set ℕ_set (lead j) (StreamWords (key j) (number j) Lead)) a.lead_words b.lead_words i;
-      returns_words = is_prop→PathP (λ j. returns j ≡ StreamWords (key j) (number j) Returns) (λ j. is_set ℕ_set (returns j) (StreamWords (key j) (number j) Returns)) a.returns_words b.returns_words i;
-    }
-
 -- ---- Blocks of different numbers differ in the words of each stream.
 
 counter_fits : (s : Stream) → counter_of s < 2 ^ 64
 counter_fits Demand = lit< tt
-counter_fits Lead = lit< tt
-counter_fits Returns = lit< tt
+counter_fits s = lit< tt
 
 pub apart : (key : List ℕ) → length key ≡ 4 → ((i : ℕ) → slice_index key i < 2 ^ 64) → (m n : ℕ) → m < 2 ^ 64 → n < 2 ^ 64 → m ≢ n → (s : Stream)
     → StreamWords key m s ≢ StreamWords key n s
