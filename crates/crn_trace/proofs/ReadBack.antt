@@ -1,6 +1,5 @@
 -- A text and its schedule, line by line.
-use Rattle.std.proofs.Common.{◌≡◌, ℕ, ◌+◌, ◌%◌, ◌<◌, ◌^◌, inl, inr, true, List, [], ◌∷◌, ◌++◌, length, decimal, Option, Some, None, refl, ap, sym, ◌∙◌, append_assoc, subst, arith}
-use Rattle.std.proofs.lemmas.List.{append-nil}
+use Rattle.std.proofs.Common.{◌≡◌, ℕ, ◌+◌, ◌%◌, ◌<◌, ◌^◌, inl, inr, true, List, [], ◌∷◌, ◌++◌, length, decimal, Option, Some, None, refl, ap, sym, ◌∙◌, append_assoc, subst, arith, append-nil}
 use Rattle.std.proofs.lemmas.Bool.{and_parts, false≢true}
 use Rattle.std.proofs.lemmas.Bool.Decides.{nat_tests}
 use Rattle.std.proofs.lemmas.Fmt.{decimal_by_steps_wide}
@@ -48,9 +47,12 @@ same_cut (c ∷ a) (d ∷ b) xs ys h k e =
     let rest = same_cut a b xs ys (and_parts (is_in_line c) (list_all is_in_line a) h).1 (and_parts (is_in_line d) (list_all is_in_line b) k).1 tail in
     ((λ i. head i ∷ rest.0 i), rest.1)
 
+no_bytes : (a ys : List ℕ) → [] ≡ a ++ 10 ∷ ys → ⊥
+no_bytes [] ys e = absurd cc
+no_bytes (c ∷ a) ys e = absurd cc
+
 no_cut : (a b ys : List ℕ) → list_all is_in_line a ≡ true → a ≡ b ++ 10 ∷ ys → ⊥
-no_cut [] [] ys h e = absurd cc
-no_cut [] (c ∷ b) ys h e = absurd cc
+no_cut [] b ys h e = absurd (no_bytes b ys e)
 no_cut (c ∷ a) [] ys h e = let feed : c ≡ 10 = cc in feed_in_line c feed (and_parts (is_in_line c) (list_all is_in_line a) h).0
 no_cut (c ∷ a) (d ∷ b) ys h e =
     let tail : a ≡ b ++ 10 ∷ ys = cc in
@@ -68,13 +70,7 @@ pub record FirstOf (actors : List Actor) (line after : List ℕ) : Type 0 where
 
 no_line : (w : Actor) (ys : List ℕ) → 10 ∷ [] ≡ actor_text w ++ 10 ∷ ys → ⊥
 no_line Producer ys e = absurd cc
-no_line Finish ys e = absurd cc
-no_line (Reader r) ys e = absurd cc
-no_line (Leave r) ys e = absurd cc
-
-no_bytes : (a ys : List ℕ) → [] ≡ a ++ 10 ∷ ys → ⊥
-no_bytes [] ys e = absurd cc
-no_bytes (c ∷ a) ys e = absurd cc
+no_line w ys e = absurd cc
 
 -- no bytes are the text of no actors alone
 pub none_left : (ws : List Actor) → IsTextOfActors ws [] → ws ≡ []
@@ -138,9 +134,6 @@ pub record IsReadSoFar (text : List ℕ) (found : List Actor) (rest : List ℕ) 
   pub says : (ws : List Actor) → IsTextOfActors ws rest → IsTextOfActors (found ++ ws) text
   pub only : (all : List Actor) → IsTextOfActors all text → (ws : List Actor) × (all ≡ found ++ ws) × IsTextOfActors ws rest
 
-pub begun : (text : List ℕ) → IsReadSoFar text [] text
-begun text = record { says = λ ws h. h; only = λ all h. (all, refl, h) }
-
 next_only : (text : List ℕ) (found : List Actor) (rest line after : List ℕ) (who : Actor) → IsReadSoFar text found rest → IsCut rest line after → 0 < length rest
     → ((w : Actor) → is_below (2 ^ 32) w ≡ true → line ≡ actor_text w → w ≡ who)
     → (all : List Actor) → IsTextOfActors all text → (ws : List Actor) × (all ≡ (found ++ who ∷ []) ++ ws) × IsTextOfActors ws after
@@ -184,7 +177,3 @@ same_actor a b e = cc
 
 pub no_actor : (r : Option Actor) (a : Actor) → r ≡ None → r ≡ Some a → ⊥
 no_actor r a e f = absurd cc
-
-pub nothing_left : (xs : List ℕ) → length xs ≡ 0 → xs ≡ []
-nothing_left [] e = refl
-nothing_left (x ∷ xs) e = absurd (omega arith)

@@ -1,6 +1,7 @@
 use Rattle.std.proofs.Common.{rules, ◌≡◌, ◌<◌, ◌++◌, ◌∷◌, [], inr, refl, sym, subst, length, arith, false-eqb, true-eqb, List, ℕ}
 use Rattle.crn_proto.specs.declared.schedule.Actor.{Actor}
-use Rattle.crn_trace.proofs.ReadBack.{IsReadSoFar, one_more, no_schedule, all_read, same_actor, no_actor, nothing_left}
+use Rattle.std.proofs.lemmas.List.{nil_from_length}
+use Rattle.crn_trace.proofs.ReadBack.{IsReadSoFar, one_more, no_schedule, all_read, same_actor, no_actor}
 use Rattle.crn_trace.proofs.schedules.read_lines.Goals as goal
 
 pub returns-in-None-clause-refuses : goal.returns-in-None-clause-refuses
@@ -26,5 +27,5 @@ loop-rest-preserved c =
 
 pub returns-clause-schedule : goal.returns-clause-schedule
 returns-clause-schedule c =
-    let none = nothing_left c.loop-rest.rest.now (true-eqb _ 0 c.loop-rest-test.ensures) in
+    let none = nil_from_length c.loop-rest.rest.now (true-eqb _ 0 c.loop-rest-test.ensures) in
     all_read c.args.bytes.now c.loop-rest.actors.items (subst (λ (rest : List ℕ). IsReadSoFar c.args.bytes.now c.loop-rest.actors.items rest) none c.loop-rest.invariant)
