@@ -1,6 +1,5 @@
 -- The costs at a run's end are never refused as a pair.
-use Rattle.std.proofs.Common.{◌≡◌, ℕ, suc, ◌*◌, ◌≤◌, true, List, [], ◌∷◌, All, length, None, refl, arith}
-use Rattle.std.proofs.lemmas.Bool.{le-leb}
+use Rattle.std.proofs.Common.{◌≡◌, ℕ, suc, ◌*◌, ◌≤◌, true, List, [], ◌∷◌, All, length, None, refl, arith, le-leb}
 use Rattle.std.proofs.lemmas.Bool.Decides.{nat_tests}
 use Rattle.crn_limits.specs.declared.TheConstants.{PERIOD_LIMIT}
 use Rattle.crn_stock.specs.declared.limits.TheConstants.{PERIOD_COST_LIMIT}

@@ -47,14 +47,12 @@ one_text : OneFraction → (m : ModelParts) (b : List ℕ) (ps : List Policy) (c
     → length fs ≡ length costs → length gs ≡ length costs → EachOf m b costs fs → EachOf m b costs gs → policy_rows_text ps fs ≡ policy_rows_text ps gs
 one_text one m b [] costs fs gs hp hr count_f count_g of_f of_g = refl
 one_text one m b (p ∷ ps) costs [] [] hp hr count_f count_g of_f of_g = refl
-one_text one m b (p ∷ ps) costs [] (g ∷ gs) hp hr count_f count_g of_f of_g = absurd (omega arith)
-one_text one m b (p ∷ ps) costs (f ∷ fs) [] hp hr count_f count_g of_f of_g = absurd (omega arith)
-one_text one m b (p ∷ ps) [] (f ∷ fs) (g ∷ gs) hp hr count_f count_g of_f of_g = absurd (omega arith)
 one_text one m b (p ∷ ps) (a ∷ costs) (f ∷ fs) (g ∷ gs) hp hr count_f count_g of_f of_g =
     let here : row_text (fields p f) ≡ row_text (fields p g) = one_row one m a b p f g hp hr (of_f 0 f refl a refl) (of_g 0 g refl a refl) in
     let rest : policy_rows_text ps fs ≡ policy_rows_text ps gs =
     one_text one m b ps costs fs gs hp hr (omega arith) (omega arith) (λ i h e c d. of_f (suc i) h e c d) (λ i h e c d. of_g (suc i) h e c d) in
     cc
+one_text one m b ps costs fs gs hp hr count_f count_g of_f of_g = absurd (omega arith)
 
 pub one_report : OneFraction → (s : ScenarioParts) (costs : List (List ℕ)) (text other : List ℕ) → 1 ≤ s.model.periods → 1 ≤ s.model.replications
     → IsReportText s costs text → IsReportText s costs other → text ≡ other
