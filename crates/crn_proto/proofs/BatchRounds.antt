@@ -1,6 +1,5 @@
 -- Actors that go on with batches can always go on, do not stick, and end by rounds.
-use Rattle.std.proofs.Common.{◌≡◌, ℕ, zero, suc, ◌+◌, ◌-◌, ◌/◌, ◌%◌, ◌<◌, ◌≤◌, ◌||◌, ◌⊎◌, Bool, true, false, List, [], ◌∷◌, length, inl, inr, refl, sym, ap, subst, ◌∙◌, arith}
-use Rattle.std.specs.Prelude.{nat_lt}
+use Rattle.std.proofs.Common.{◌≡◌, ℕ, zero, suc, ◌+◌, ◌-◌, ◌/◌, ◌%◌, ◌<◌, ◌≤◌, ◌||◌, ◌⊎◌, Bool, true, false, List, [], ◌∷◌, length, inl, inr, refl, sym, ap, subst, ◌∙◌, arith, nat_lt}
 use Rattle.std.proofs.lemmas.Bool.{cases_Bool, cases_eq, cases_lt, true≢false, ltb-false, ltb-true, or_cases, or_from, or_left, or_parts}
 use Rattle.std.proofs.lemmas.Option.{slice_get-get_or}
 use Rattle.crn_cipher.specs.declared.TheConstants.{BLOCK_WORDS}
@@ -25,7 +24,6 @@ module _ (spec : RingSpec) (b : ℕ) (some : 0 < b) (s : Ring) (w : Watch) (fits
       let total : s.spec.id.total ≡ spec.id.total = ap (λ x. x.id.total) fits.same in
       let readers : s.spec.readers ≡ spec.readers = ap (λ x. x.readers) fits.same in
       let slots : s.spec.size ≡ spec.size = ap (λ x. x.size) fits.same in
-      let few = fits.stored_few in
       elim (cases_eq s.producer.stored 0) [
         | inl none ↦ elim (cases_lt s.producer.published s.spec.id.total) [
           | inr full ↦ (ByProducer Finish, refl, after_producer s Finish, ((going, none), refl), tt)
@@ -34,7 +32,6 @@ module _ (spec : RingSpec) (b : ℕ) (some : 0 < b) (s : Ring) (w : Watch) (fits
             | inr all ↦
                 let at : storing s.producer ≡ s.producer.published = omega arith in
                 let below : storing s.producer < s.spec.id.total = omega arith in
-                let most = fits.passed_few in
                 let passes : PassesGates s.spec s.producer (storing s.producer) = λ r h ne. let near = fits.passes r (omega arith) ne in omega arith in
                 (ByProducer StoreWord, refl, after_producer s StoreWord, ((going, below, passes), refl), (omega arith, inr (inr (omega arith))))
           ]
@@ -60,7 +57,6 @@ module _ (spec : RingSpec) (b : ℕ) (some : 0 < b) (s : Ring) (w : Watch) (fits
     reader_can : CanMove (suc r)
     reader_can =
         let here = (law_of spec b s w fits r known).here stays in
-        let most = here.read_seen in
         let few = fits.read_few r known in
         elim (cases_eq (length q.read) 0) [
           | inl none ↦ elim (cases_Bool (w.looked r)) [
@@ -106,7 +102,6 @@ module _ (spec : RingSpec) (ring : IsRing spec) (b : ℕ) (s : Ring) (w : Watch)
   progresses_or_finished : AllFinished spec (ring_mark s) ⊎ SomeProgresses
   progresses_or_finished =
       let readers : s.spec.readers ≡ spec.readers = ap (λ x. x.readers) fits.same in
-      let slots = ring.has_slots in
       elim (cases_Bool s.producer.ended) [
         | inl end ↦ elim (all_or_one (λ r. has_finished (ring_mark s) (suc r)) spec.readers) [
           | inl all ↦ inl (all_finished spec (ring_mark s) end all)
@@ -144,7 +139,6 @@ module _ (spec : RingSpec) (ring : IsRing spec) (b : ℕ) where
   one_round s t w v round fits run turns =
       let to = comes spec ring b round s t w v fits run in
       let readers : t.spec.readers ≡ spec.readers = ap (λ x. x.readers) to.fits.same in
-      let few = fits.passed_few in
       record {
         stands = marks_stand spec b s w fits;
         onward = to.onward;

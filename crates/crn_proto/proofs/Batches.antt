@@ -1,6 +1,5 @@
 -- Actors that go on with batches: what always holds of them, how far their moves lead, and that they can always go on.
-use Rattle.std.proofs.Common.{◌≡◌, ℕ, suc, ◌+◌, ◌-◌, ◌*◌, ◌/◌, ◌<◌, ◌≤◌, ◌≢◌, ◌⊎◌, Bool, true, false, List, [], ◌∷◌, length, set, Some, inl, inr, refl, sym, ap, subst, ◌∙◌, arith, get_or-set_same, get_or-set_other}
-use Rattle.std.specs.Prelude.{slice_get, slice_index, slice_index_or, if◌then◌else◌, ◌==◌, nat_lt}
+use Rattle.std.proofs.Common.{◌≡◌, ℕ, suc, ◌+◌, ◌-◌, ◌*◌, ◌/◌, ◌<◌, ◌≤◌, ◌≢◌, ◌⊎◌, Bool, true, false, List, [], ◌∷◌, length, set, Some, inl, inr, refl, sym, ap, subst, ◌∙◌, arith, get_or-set_same, get_or-set_other, slice_get, slice_index, slice_index_or, if◌then◌else◌, ◌==◌, nat_lt}
 use Rattle.std.proofs.lemmas.Bool.{cases_Bool, cases_eq, true≢false, cond_both, eqb-true, eq-eqb, ne_eqb, lt-ltb, ltb-true, or_cases, or_left, or_right}
 use Rattle.std.proofs.lemmas.List.{length-set, length-replicate, get_or-replicate, length_push}
 use Rattle.std.proofs.lemmas.Option.{slice_get-get_or, get_or_from_slice_get, slice_get_within}
@@ -35,15 +34,14 @@ module _ (spec : RingSpec) (b : ℕ) (s : Ring) (w : Watch) (fits : Fits spec b 
   marks_stand =
       let first : s.spec.id.first ≡ spec.id.first = ap (λ x. x.id.first) fits.same in
       let total : s.spec.id.total ≡ spec.id.total = ap (λ x. x.id.total) fits.same in
-      let low = (producer_law s fits.law).from_first in
-      let high = (producer_law s fits.law).in_total in
+      let producer = producer_law s fits.law in
       let half = half_is s fits.law in
       record {
         first_published = omega arith;
         in_total = omega arith;
         from_first = λ r h. let own = (law_of r h).from_first in omega arith;
         in_published = λ r h stays. let a = ((law_of r h).here stays).taken_seen in let c = ((law_of r h).here stays).seen_published in omega arith;
-        at_end = λ r h seen. let odd = (law_of r h).at_end seen in let cursor = (producer_law s fits.law).cursor in elim (cases_Bool s.producer.ended) [
+        at_end = λ r h seen. let odd = (law_of r h).at_end seen in elim (cases_Bool s.producer.ended) [
           | inl end ↦ end
           | inr going ↦ let none : bit s.producer.ended ≡ 0 = rw going refl in absurd (omega arith)
         ];
@@ -122,8 +120,6 @@ module _ (spec : RingSpec) (ring : IsRing spec) (b : ℕ) (s : Ring) (w : Watch)
       let readers : s.spec.readers ≡ spec.readers = ap (λ x. x.readers) fits.same in
       let slots : s.spec.size ≡ spec.size = ap (λ x. x.size) fits.same in
       let known : r < length s.producer.gates = let n = (producer_law s fits.law).gate_count in let l = may.1 in omega arith in
-      let at = going.2 in
-      let below = may.1 in
       let same_gate = get_or-set_same s.producer.gates r count 0 known in
       producer_comes (LoadGate r) may _ fits.stored_few (cond_both (lets_in s count) (w.passed + 1) 0 (λ n. n ≤ spec.readers) (λ e. omega arith) (λ e. omega arith))
       (cond_both (lets_in s count) (w.passed + 1) 0
@@ -270,7 +266,6 @@ module _ (spec : RingSpec) (ring : IsRing spec) (b : ℕ) where
       let lets = room_lets_in spec b s w fits r known (room r known) in
       let passed : (watch_after s w (ByProducer (LoadGate r))).passed ≡ w.passed + 1 = rw lets refl in
       let none = on.0 in
-      let turn = on.2 in
       let below : w.passed < spec.readers = omega arith in
       let does = producer_does moves _ t (watch_after s w (ByProducer (LoadGate r))) v one.fits run going (room_on spec (ring_mark s) _ one.onward refl room) in
       record {
@@ -281,7 +276,6 @@ module _ (spec : RingSpec) (ring : IsRing spec) (b : ℕ) where
       let (may, on, run) = after_first b s t w v StoreWord moves goes in
       let one = producer_leads spec ring b s w fits StoreWord may on in
       let does = producer_does moves _ t (watch_after s w (ByProducer StoreWord)) v one.fits run going (room_on spec (ring_mark s) _ one.onward refl room) in
-      let few = on.0 in
       record {
         stores = λ empty some. omega arith;
         publishes = λ more empty some.
@@ -291,7 +285,6 @@ module _ (spec : RingSpec) (ring : IsRing spec) (b : ℕ) where
   producer_does (ByProducer (Publish c) ∷ moves) s t w v fits goes going room =
       let (may, on, run) = after_first b s t w v (Publish c) moves goes in
       let rises = (comes spec ring b moves _ t _ v (producer_leads spec ring b s w fits (Publish c) may on).fits run).onward.published in
-      let some_blocks = may.2 in
       record { stores = λ empty some. omega arith; publishes = λ more empty some. inr (omega arith) }
   producer_does (ByProducer Finish ∷ moves) s t w v fits goes going room =
       let (may, on, run) = after_first b s t w v Finish moves goes in
@@ -418,16 +411,12 @@ module _ (spec : RingSpec) (ring : IsRing spec) (b : ℕ) (s : Ring) (w : Watch)
       inr (rw is (eq-eqb _ _ (omega arith)))
   own_end known LoadWord step stays end whole =
       let (may, is) = part_now LoadWord step in
-      let more = may.1 in
       let seen = ((law_of spec b s w fits r known).here stays).seen_published in
       let half = half_is s fits.law in
       absurd (omega arith)
   own_end known (Take c) step stays end whole =
       let (may, is) = part_now (Take c) step in
-      let read = may.1 in
-      let some = may.2 in
-      let most = ((law_of spec b s w fits r known).here stays).read_seen in
-      let seen = ((law_of spec b s w fits r known).here stays).seen_published in
+      let here = (law_of spec b s w fits r known).here stays in
       let half = half_is s fits.law in
       absurd (omega arith)
   own_end known Leave step stays end whole = let (may, is) = part_now Leave step in inl (rw is refl)
@@ -440,7 +429,6 @@ module _ (spec : RingSpec) (ring : IsRing spec) (b r : ℕ) (known : r < spec.re
   reader_takes [] s t w v fits run stays going below enough = absurd (elim enough [ inl many ↦ omega arith | inr (some, few) ↦ omega arith ])
   reader_takes (move ∷ moves) s t w v fits (mid, step, on, run) stays going below enough =
       let one = step_leads spec ring b s w fits move mid step on in
-      let rises = one.onward.published in
       elim (cases_eq (mover move) (suc r)) [
         | inr ne ↦
             let part = part_by_others s mid move r ne step in

@@ -1,7 +1,6 @@
 -- An opened ring is lawful, and the parts of a ring's state are those of different actors.
-use Rattle.std.proofs.Common.{◌≡◌, ℕ, suc, zero, ◌+◌, ◌*◌, ◌<◌, List, [], ◌∷◌, length, replicate, set, Some, inl, inr, refl, sym, ap, ◌∙◌, arith, one-add}
+use Rattle.std.proofs.Common.{◌≡◌, ℕ, suc, zero, ◌+◌, ◌*◌, ◌<◌, List, [], ◌∷◌, length, replicate, set, Some, inl, inr, refl, sym, ap, ◌∙◌, arith, one-add, slice_get, slice_index}
 use Rattle.crn_cipher.specs.declared.TheConstants.{BLOCK_WORDS}
-use Rattle.std.specs.Prelude.{slice_get, slice_index}
 use Rattle.std.proofs.lemmas.Bool.{cases_lt, false≢true}
 use Rattle.std.proofs.lemmas.List.{ext_get_or, length-append, length-replicate, get_or-replicate, get_or_append_left}
 use Rattle.crn_proto.specs.declared.spec.RingSpec.{RingSpec}

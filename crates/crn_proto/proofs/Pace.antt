@@ -1,7 +1,6 @@
 -- Rounds of a ring, by nothing but how far each actor is before and after them: in a round a block is published if there is
 -- room, and each reader takes one if there is one.
-use Rattle.std.proofs.Common.{◌≡◌, ℕ, zero, suc, ◌+◌, ◌-◌, ◌<◌, ◌≤◌, ◌⊎◌, Bool, true, false, List, [], ◌∷◌, length, inl, inr, refl, sym, ◌∙◌, arith}
-use Rattle.std.specs.Prelude.{cond, ◌==◌}
+use Rattle.std.proofs.Common.{◌≡◌, ℕ, zero, suc, ◌+◌, ◌-◌, ◌<◌, ◌≤◌, ◌⊎◌, Bool, true, false, List, [], ◌∷◌, length, inl, inr, refl, sym, ◌∙◌, arith, cond, ◌==◌}
 use Rattle.std.proofs.lemmas.Bool.{cases_Bool, cases_lt, true≢false, eqb-false, or_cases, or_left, or_right, or_parts}
 use Rattle.crn_proto.specs.declared.spec.RingSpec.{RingSpec}
 use Rattle.crn_proto.specs.Ring.{IsRing}
@@ -93,7 +92,6 @@ module _ (spec : RingSpec) (x y : Mark) (go : Rounds spec x y) (f g : ℕ) (re :
 
   produces_one : f < spec.id.total → f < g + spec.size → (y.ended ≡ true) ⊎ (f + 1 ≤ y.published)
   produces_one more near =
-      let rises = go.onward.published in
       elim (cases_Bool x.ended) [
         | inl end ↦ inl (go.onward.ended end).0
         | inr going ↦ elim re.produced [
@@ -167,7 +165,6 @@ module _ (spec : RingSpec) (x y : Mark) (go : Rounds spec x y) (f g : ℕ) (re :
   last_round end full = all_finished spec y (go.onward.ended end).0 (λ r h. elim (cases_Bool (has_finished x (suc r))) [
     | inl fin ↦ finished_on spec x y go.onward (suc r) (omega arith) fin
     | inr there ↦
-        let most = go.stands.in_total in
         let own = go.stands.in_published r h (or_parts (x.left r) (x.seen_end r) there).0 in
         elim (re.took r h) [
           | inl fin ↦ finished_on spec x y go.onward (suc r) (omega arith) fin
@@ -195,8 +192,6 @@ two_more spec x y z marks f g re full low high (first, (second, more)) =
 -- With two slots or more a block is published in each round, and taken in the next.
 on_many_slots : (spec : RingSpec) (marks : List Mark) (x : Mark) (f g : ℕ) → Reached spec x f g → 2 ≤ spec.size → f ≤ spec.id.total → g ≤ f → f ≤ g + 1 → Paced spec x marks
     → spec.id.total - f + 2 ≤ length marks → AllFinished spec (last_mark x marks)
-on_many_slots spec [] x f g re size most low high paced long = absurd (omega arith)
-on_many_slots spec (y ∷ []) x f g re size most low high paced long = absurd (omega arith)
 on_many_slots spec (y ∷ z ∷ marks) x f g re size most low high paced long = elim (cases_lt f spec.id.total) [
   | inr full ↦ two_more spec x y z marks f g re (omega arith) low high paced
   | inl more ↦
@@ -204,12 +199,11 @@ on_many_slots spec (y ∷ z ∷ marks) x f g re size most low high paced long = 
       let then = round_on spec x y paced.0 f g re (f + 1) f (inr (refl, (more, omega arith))) back in
       on_many_slots spec (z ∷ marks) y (f + 1) f then size (omega arith) (omega arith) (omega arith) paced.1 (omega arith)
 ]
+on_many_slots spec marks x f g re size most low high paced long = absurd (omega arith)
 
 -- On any ring a block is published in a round, and taken in the next one.
 on_one_slot : (spec : RingSpec) (marks : List Mark) (x : Mark) (f g : ℕ) → 0 < spec.size → Reached spec x f g → f ≤ spec.id.total → g ≤ f → f ≤ g + 1 → Paced spec x marks
     → spec.id.total - f + (spec.id.total - g) + 1 ≤ length marks → 2 ≤ length marks → AllFinished spec (last_mark x marks)
-on_one_slot spec [] x f g slots re most low high paced long two = absurd (omega arith)
-on_one_slot spec (y ∷ []) x f g slots re most low high paced long two = absurd (omega arith)
 on_one_slot spec (y ∷ z ∷ marks) x f g slots re most low high paced long two = elim (cases_lt f spec.id.total) [
   | inr full ↦ two_more spec x y z marks f g re (omega arith) low high paced
   | inl more ↦ elim (cases_lt g f) [
@@ -221,6 +215,7 @@ on_one_slot spec (y ∷ z ∷ marks) x f g slots re most low high paced long two
         on_one_slot spec (z ∷ marks) y (f + 1) g slots then (omega arith) (omega arith) (omega arith) paced.1 (omega arith) (omega arith)
   ]
 ]
+on_one_slot spec marks x f g slots re most low high paced long two = absurd (omega arith)
 
 -- After so many rounds all are done.
 pub paced_ends : (spec : RingSpec) → IsRing spec → (x : Mark) (marks : List Mark) → MarkStands spec x → Paced spec x marks → rounds_of spec ≤ length marks → AllFinished spec (last_mark x marks)

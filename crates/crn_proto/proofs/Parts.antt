@@ -1,7 +1,6 @@
 -- A move of one actor keeps the law of all parts that are known.
-use Rattle.std.proofs.Common.{◌≡◌, ℕ, suc, zero, ◌+◌, ◌%◌, ◌≢◌, ◌⊎◌, List, [], ◌∷◌, set, Some, inl, inr, refl, sym, ap, ◌∙◌, arith}
+use Rattle.std.proofs.Common.{◌≡◌, ℕ, suc, zero, ◌+◌, ◌%◌, ◌≢◌, ◌⊎◌, List, [], ◌∷◌, set, Some, inl, inr, refl, sym, ap, ◌∙◌, arith, slice_get, slice_set, slice_index}
 use Rattle.crn_cipher.specs.declared.TheConstants.{BLOCK_WORDS}
-use Rattle.std.specs.Prelude.{slice_get, slice_set, slice_index}
 use Rattle.std.proofs.lemmas.List.{set-get_or}
 use Rattle.crn_proto.specs.declared.spec.RingSpec.{RingSpec}
 use Rattle.crn_proto.specs.Ring.{IsRing, Producer, Reader, ProducerMove, LoadGate, StoreWord, Publish, Finish, ProducerMay, producer_word, producer_leaves, producer_after, storing, ReaderMove, LoadCursor, LoadWord, Take, Leave, ReaderMay, reader_word, reader_leaves, reader_after}

@@ -1,8 +1,7 @@
 -- Each move of the producer keeps the law of the words, its own and every reader's.
-use Rattle.std.proofs.Common.{◌≡◌, ℕ, ◌+◌, ◌-◌, ◌*◌, ◌/◌, ◌%◌, ◌<◌, ◌≤◌, ◌≢◌, true, false, List, length, get_or, set, inl, inr, refl, sym, ◌∙◌, arith, get_or-set_same, get_or-set_other}
+use Rattle.std.proofs.Common.{◌≡◌, ℕ, ◌+◌, ◌-◌, ◌*◌, ◌/◌, ◌%◌, ◌<◌, ◌≤◌, ◌≢◌, true, false, List, length, get_or, set, inl, inr, refl, sym, ◌∙◌, arith, get_or-set_same, get_or-set_other, length-set}
 use Rattle.crn_cipher.specs.declared.TheConstants.{BLOCK_WORDS}
 use Rattle.std.proofs.lemmas.Bool.{cases_lt, cases_eq, true≢false}
-use Rattle.std.proofs.lemmas.List.{length-set}
 use Rattle.crn_proto.specs.declared.spec.RingSpec.{RingSpec}
 use Rattle.crn_cipher.specs.Blocks.{block_word}
 use Rattle.crn_proto.specs.Ring.{left_mark, place, bit, IsRing, Producer, Reader, LoadGate, StoreWord, Publish, Finish, ProducerMay, producer_word, producer_after, storing, PassesGates}
@@ -58,8 +57,6 @@ module _ (spec : RingSpec) (ring : IsRing spec) (words : List ℕ) (p : Producer
       → (get_or p.gates r 0 ≢ left_mark) × (get_or p.gates r 0 ≤ get_or words (1 + r) 0) × (get_or words (1 + r) 0 ≤ get_or words 0 0 / 2)
   gate_counts r h ne =
       let low = own.gates_low r h in
-      let below = ring.total_below in
-      let most = laws.in_total in
       elim (laws.cursors r h) [
         | inl e ↦ absurd (ne e)
         | inr both ↦ (λ e. let high = both.0 in omega arith, low, both.0)
@@ -72,9 +69,6 @@ module _ (spec : RingSpec) (ring : IsRing spec) (words : List ℕ) (p : Producer
   pub publish_near : (c : ℕ) → ProducerMay spec p (Publish c) → (r : ℕ) → r < spec.readers → get_or words (1 + r) 0 ≢ left_mark → p.published + c ≤ get_or words (1 + r) 0 + spec.size
   publish_near c may r h ne =
       let g = gate_counts r h ne in
-      let low = g.1 in
-      let count = may.1 in
-      let some = may.2 in
       let near : p.published + (BLOCK_WORDS * c - 1) / BLOCK_WORDS < get_or p.gates r 0 + spec.size = own.stored_passed (BLOCK_WORDS * c - 1) (omega arith) r h g.0 in
       omega arith
 
@@ -114,7 +108,6 @@ module _ (spec : RingSpec) (ring : IsRing spec) (words : List ℕ) (p : Producer
       store_whole : (r : ℕ) (q : Reader) → r < spec.readers → ReaderHere spec words r q → (n i : ℕ) → q.taken ≤ n → n < get_or words 0 0 / 2 → i < BLOCK_WORDS
           → get_or new (place spec n i) 0 ≡ block_word spec.id.key n i
       store_whole r q h here n i low high l =
-          let count = here.cursor in
           let was = no_mark spec ring words r q laws here in
           let near = store_near may r h was in
           let c = published_is may.0 in
@@ -153,10 +146,8 @@ module _ (spec : RingSpec) (ring : IsRing spec) (words : List ℕ) (p : Producer
       publish_whole : (r : ℕ) (q : Reader) → r < spec.readers → ReaderHere spec words r q → (n i : ℕ) → q.taken ≤ n → n < p.published + c → i < BLOCK_WORDS
           → get_or new (place spec n i) 0 ≡ block_word spec.id.key n i
       publish_whole r q h here n i low high l =
-          let count = here.cursor in
           let was = no_mark spec ring words r q laws here in
           let f = published_is may.0 in
-          let all = may.1 in
           ch.others (place spec n i) (place_not_first spec n i)
           ∙ elim (cases_lt n p.published) [
             | inl older ↦ here.whole n i low (omega arith) l
@@ -241,7 +232,6 @@ module _ (spec : RingSpec) (ring : IsRing spec) (words : List ℕ) (p : Producer
           let k : g < length p.gates = let m = own.gate_count in let l = may.1 in omega arith in
           let is : get_or (set p.gates g (get_or words (1 + g) 0)) r 0 ≡ get_or words (1 + r) 0 = rw (e, get_or-set_same) refl in
           let counts = gate_counts r h (λ left. ne (is ∙ left)) in
-          let low = counts.1 in
           let old : n < get_or p.gates r 0 + spec.size = passes r h counts.0 in
           omega arith
       | inr other ↦

@@ -49,8 +49,6 @@ module _ (spec : RingSpec) (ring : IsRing spec) (words : List ℕ) (r : ℕ) (q 
   pub word_found : ReaderMay q LoadWord → get_or words (reader_word spec r q LoadWord) 0 ≡ block_word spec.id.key (reading q) (length q.read % BLOCK_WORDS)
   word_found may =
       let here = own.here may.0 in
-      let high = here.seen_published in
-      let more = may.1 in
       here.whole (reading q) (length q.read % BLOCK_WORDS) (omega arith) (omega arith) (omega arith)
 
   longer : ReaderMay q LoadWord → (found : ℕ) → get_or words (reader_word spec r q LoadWord) 0 ≡ found
@@ -130,7 +128,6 @@ module _ (spec : RingSpec) (ring : IsRing spec) (words : List ℕ) (r : ℕ) (q 
               | inl mark ↦ inl (now ∙ mark)
               | inr low ↦
                   let here = own.here is_here in
-                  let count = here.cursor in
                   elim (laws.cursors r own.known) [
                     | inl gone ↦ absurd (no_mark spec ring words r q laws here gone)
                     | inr both ↦ let room = both.1 in inr (omega arith, omega arith)
@@ -143,11 +140,7 @@ module _ (spec : RingSpec) (ring : IsRing spec) (words : List ℕ) (r : ℕ) (q 
   module _ (new : List ℕ) where
     pub take_keeps : (c : ℕ) → ReaderMay q (Take c) → Changes words new (1 + r) (q.taken + c) → ReaderKeeps spec words new r (reader_after q (Take c) 0)
     take_keeps c may ch =
-        let whole_read = may.1 in
-        let some = may.2 in
         let was = own.here may.0 in
-        let low = was.read_seen in
-        let high = was.seen_published in
         let higher : q.taken ≤ q.taken + c = omega arith in
         let same = first_same new (q.taken + c) ch may.0 higher in
         record {
@@ -174,10 +167,6 @@ module _ (spec : RingSpec) (ring : IsRing spec) (words : List ℕ) (r : ℕ) (q 
     pub leave_keeps : ReaderMay q Leave → Changes words new (1 + r) left_mark → ReaderKeeps spec words new r (reader_after q Leave 0)
     leave_keeps may ch =
         let was = own.here may.0 in
-        let low = was.taken_seen in
-        let high = was.seen_published in
-        let most = laws.in_total in
-        let below = ring.total_below in
         let higher : q.taken ≤ left_mark = omega arith in
         record {
           of_words = cursor_words new left_mark ch may.0 higher (inl refl);

@@ -1,7 +1,6 @@
 -- One more step of a replay.
-use Rattle.std.proofs.Common.{◌≡◌, ℕ, ◌+◌, ◌<◌, ◌||◌, not, List, ◌∷◌, ◌++◌, length, take, drop, get_or, set, Option, refl, ap, ◌∙◌, arith}
+use Rattle.std.proofs.Common.{◌≡◌, ℕ, ◌+◌, ◌<◌, ◌||◌, not, List, ◌∷◌, ◌++◌, length, take, drop, get_or, set, Option, refl, ap, ◌∙◌, arith, ◌==◌, nat_lt}
 use Rattle.crn_cipher.specs.declared.TheConstants.{BLOCK_WORDS}
-use Rattle.std.specs.Prelude.{◌==◌, nat_lt}
 use Rattle.std.proofs.lemmas.Bool.{cond_both}
 use Rattle.std.proofs.lemmas.List.{drop_more, take_more_set, append_assoc}
 use Rattle.crn_proto.specs.declared.schedule.Actor.{Actor}

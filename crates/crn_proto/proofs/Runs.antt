@@ -1,6 +1,5 @@
 -- Every run keeps the ring lawful, and its events are a run of the broadcast list.
-use Rattle.std.proofs.Common.{◌≡◌, ℕ, suc, zero, ◌+◌, ◌-◌, ◌/◌, ◌≤◌, Bool, true, false, List, [], ◌∷◌, ◌++◌, map, set, Some, None, refl, ap, subst, ◌∙◌, arith, zero-add}
-use Rattle.std.specs.Prelude.{slice_get, slice_index, if◌then◌else◌}
+use Rattle.std.proofs.Common.{◌≡◌, ℕ, suc, zero, ◌+◌, ◌-◌, ◌/◌, ◌≤◌, Bool, true, false, List, [], ◌∷◌, ◌++◌, map, set, Some, None, refl, ap, subst, ◌∙◌, arith, zero-add, slice_get, slice_index, if◌then◌else◌}
 use Rattle.std.proofs.lemmas.List.{map-set, set-get_or}
 use Rattle.std.proofs.lemmas.Option.{slice_get-map, get_or_from_slice_get}
 use Rattle.crn_proto.specs.declared.spec.RingSpec.{RingSpec}
@@ -59,7 +58,6 @@ publish_shows : (s : Ring) (c : ℕ) → IsRing s.spec → Lawful s.spec s.words
     → Happens (shows s) (Published c) (record (shows s) { items = front s.spec.id.key s.spec.id.first (s.producer.published + c - s.spec.id.first) })
 publish_shows s c ring law may =
     let own = producer_law s law in
-    let low = own.from_first in
     let key = s.spec.id.key in
     let first = s.spec.id.first in
     let published = s.producer.published in
@@ -72,11 +70,7 @@ publish_shows s c ring law may =
       λ r count h.
           let (q, at, here, is) = reader_shown s.readers r count h in
           let law_r = reader_law s law r q at in
-          let cursor = (law_r.here here).cursor in
-          let seen = (law_r.here here).taken_seen in
-          let high = (law_r.here here).seen_published in
-          let most = law.of_words.in_total in
-          let below = ring.total_below in
+          let known = law_r.here here in
           let near = publish_near s.spec ring s.words s.producer law.of_words own c may r law_r.known (λ e. omega arith) in
           let n = length-front key first (published - first) in
           omega arith,

@@ -1,8 +1,6 @@
 -- The laws of every schedule.
-use Rattle.std.proofs.Common.{◌≡◌, ℕ, suc, zero, ◌+◌, ◌-◌, ◌%◌, true, List, [], ◌∷◌, length, take, drop, Some, refl, sym, ap, ◌∙◌, arith}
-use Rattle.std.specs.Prelude.{slice_get}
+use Rattle.std.proofs.Common.{◌≡◌, ℕ, suc, zero, ◌+◌, ◌-◌, ◌%◌, true, List, [], ◌∷◌, length, take, drop, Some, refl, sym, ap, ◌∙◌, arith, slice_get, true≢false}
 use Rattle.std.specs.List.{concat}
-use Rattle.std.proofs.lemmas.Bool.{true≢false}
 use Rattle.std.proofs.lemmas.Option.{slice_get-get_or}
 use Rattle.crn_proto.specs.Stream.{front, first_words}
 use Rattle.crn_proto.specs.Ring.{IsRing, Reader, Ring, Move, ByProducer, ByReader, StoreWord, Finish, Take, LeadsTo, Runs, ProducerMay, ReaderMay, open_ring, storing}
@@ -27,11 +25,7 @@ no_unread : (s : Ring) (r : ℕ) (q : Reader) → IsRing s.spec → Lawful s.spe
     → IsUnread s q (storing s.producer % s.spec.size) → ⊥
 no_unread s r q ring law may at (here, n, slot, low, high) =
     let own = reader_law s law r q at in
-    let cursor = (own.here here).cursor in
-    let seen = (own.here here).taken_seen in
-    let front = (own.here here).seen_published in
-    let most = law.of_words.in_total in
-    let below = ring.total_below in
+    let known = own.here here in
     let near = store_near s.spec ring s.words s.producer law.of_words (producer_law s law) may r own.known (λ e. omega arith) in
     rests_apart s.spec.size n (storing s.producer) (omega arith) (omega arith) slot
 
@@ -45,7 +39,6 @@ read_items : (s : Ring) (r c : ℕ) (q : Reader) → Lawful s.spec s.words (part
 read_items s r c q law may at =
     let own = reader_law s law r q at in
     let words : q.read ≡ first_words s.spec.id.key q.taken (length q.read) = (own.here may.0).read_words in
-    let low = own.from_first in
     let most = taken_published s r q c law at may in
     let a = q.taken - s.spec.id.first in
     let b = s.producer.published - (q.taken + c) in

@@ -1,7 +1,6 @@
 -- How many stores a run has, with batches of every length.
-use Rattle.std.proofs.Common.{◌≡◌, ℕ, zero, suc, inl, inr, ◌+◌, ◌-◌, ◌*◌, ◌≤◌, List, [], ◌∷◌, length, set, Some, refl, sym, ap, ◌∙◌, arith}
+use Rattle.std.proofs.Common.{◌≡◌, ℕ, zero, suc, inl, inr, ◌+◌, ◌-◌, ◌*◌, ◌≤◌, List, [], ◌∷◌, length, set, Some, refl, sym, ap, ◌∙◌, arith, slice_get, slice_index}
 use Rattle.crn_cipher.specs.declared.TheConstants.{BLOCK_WORDS}
-use Rattle.std.specs.Prelude.{slice_get, slice_index}
 use Rattle.std.proofs.lemmas.Bool.{cases_lt}
 use Rattle.std.proofs.lemmas.List.{length-set, length-replicate}
 use Rattle.crn_proto.specs.declared.spec.RingSpec.{RingSpec}
@@ -43,8 +42,6 @@ gains first readers r q p n at more = let sum = readers_stored_set first readers
 
 step_stores : (s t : Ring) (move : Move) → IsRing s.spec → Lawful s.spec s.words (parts_of s) → TakenFew s → LeadsTo s move t → TakenFew t × (stored_by s + bit (is_store (kind_of move)) ≤ stored_by t)
 step_stores s t (ByProducer (Publish c)) ring law few (may, is) =
-    let whole = may.1 in
-    let some = may.2 in
     let low = (producer_law s law).from_first in
     rw is (few, omega arith)
 step_stores s t (ByProducer Finish) ring law few (may, is) = let going = may.0 in rw (is, going) (few, omega arith)
@@ -53,7 +50,6 @@ step_stores s t (ByReader r (Take c)) ring law few (q, at, may, is) =
     let most = taken_published s r q c law at may in
     let total = (producer_law s law).in_total in
     let low = (reader_law s law r q at).from_first in
-    let some = may.2 in
     let p = reader_after q (Take c) (slice_index s.words (1 + r)) in
     let sum = gains s.spec.id.first s.readers r q p 1 at (omega arith) in
     rw is (few_after s r p few (omega arith), omega arith)
@@ -86,7 +82,6 @@ run_stores spec ring (move ∷ moves) s t same law few (mid, step, run) =
     let (kept, next) = step_lawful s mid move here law step in
     let (still, more) = step_stores s mid move here law few step in
     let rest = run_stores spec ring moves mid t (kept ∙ same) next still run in
-    let all = rest.stores in
     record { spec = rest.spec ∙ kept; law = rest.law; few = rest.few; count = rest.count ∙ step_count s mid move step; stores = omega arith }
 
 -- ---- the most that can be stored
@@ -102,8 +97,6 @@ readers_most first most (q ∷ readers) each =
 stored_most : (s : Ring) → length s.readers ≡ s.spec.readers → Lawful s.spec s.words (parts_of s) → TakenFew s → stored_by s ≤ store_limit s.spec
 stored_most s n law few =
     let own = producer_law s law in
-    let low = own.from_first in
-    let high = own.in_total in
     let b = bit_small s.producer.ended in
     let readers : readers_stored s.spec.id.first s.readers ≤ length s.readers * (blocks_of s.spec + 1) =
     readers_most s.spec.id.first (blocks_of s.spec + 1) s.readers (λ r q at.

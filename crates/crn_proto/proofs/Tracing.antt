@@ -1,8 +1,6 @@
 -- The machine's steps are moves of the ring, by actors that go on with one block at a time.
-use Rattle.std.proofs.Common.{◌≡◌, ℕ, suc, ◌+◌, ◌*◌, ◌/◌, ◌%◌, ◌<◌, ◌≤◌, ◌≢◌, ◌||◌, ◌⊎◌, not, Bool, true, false, List, [], ◌∷◌, ◌++◌, length, replicate, set, Option, Some, None, inl, inr, refl, sym, ap, subst, ◌∙◌, arith, get_or-set_same, get_or-set_other}
+use Rattle.std.proofs.Common.{◌≡◌, ℕ, suc, ◌+◌, ◌*◌, ◌/◌, ◌%◌, ◌<◌, ◌≤◌, ◌≢◌, ◌||◌, ◌⊎◌, not, Bool, true, false, List, [], ◌∷◌, ◌++◌, length, replicate, set, Option, Some, None, inl, inr, refl, sym, ap, subst, ◌∙◌, arith, get_or-set_same, get_or-set_other, slice_get, slice_index, slice_index_or, ◌==◌, nat_lt, All}
 use Rattle.crn_cipher.specs.declared.TheConstants.{BLOCK_WORDS}
-use Rattle.std.specs.Prelude.{slice_get, slice_index, slice_index_or, ◌==◌, nat_lt}
-use Rattle.std.specs.List.{All}
 use Rattle.std.proofs.lemmas.Bool.{cases_eq, true≢false, cond_both, eq-eqb, eqb-true, eqb-false, ne_eqb, ltb-true, ltb-false, or_parts, not-true, not-false}
 use Rattle.std.proofs.lemmas.List.{length-set, set-get_or, length-replicate, get_or-replicate, length_push}
 use Rattle.std.proofs.lemmas.List.Elements.{All-head, All-tail}
@@ -153,7 +151,6 @@ module _ (m : MachineState) (ring : IsRing m.spec) (at : Beside m) where
       let block : m.published + m.stored / BLOCK_WORDS ≡ m.published = omega arith in
       let word : m.stored % BLOCK_WORDS ≡ m.stored = omega arith in
       let most = (producer_law s at.fits.law).in_total in
-      let passed = at.fits.passed_few in
       let passes : PassesGates m.spec s.producer (storing s.producer) = λ r h ne. let near = at.fits.passes r (omega arith) ne in omega arith in
       by_producer ProducerActs StoreWord _ _ _ _ _ _ refl (going, omega arith, passes) (omega arith, inr (inr (omega arith))) (rw (block, word) refl) refl (λ h. omega arith)
       (rw (block, word) (ap (λ x. record { kind = kind_of (ByProducer StoreWord); word = place m.spec m.published m.stored; value = x })
@@ -161,7 +158,6 @@ module _ (m : MachineState) (ring : IsRing m.spec) (at : Beside m) where
 
   publish_advance : m.ended ≡ false → BLOCK_WORDS ≤ m.stored → Advances m at ProducerActs (publishes m)
   publish_advance going whole =
-      let few = at.fits.stored_few in
       by_producer ProducerActs (Publish 1) _ _ _ _ _ _ (refl, refl) (going, omega arith, omega arith) tt refl refl (λ h. absurd (omega arith))
       (ap (λ x. record { kind = kind_of (ByProducer (Publish 1)); word = 0; value = x }) (stored_at 0 _ (omega arith)))
 
@@ -230,8 +226,6 @@ module _ (m : MachineState) (ring : IsRing m.spec) (at : Beside m) where
             taker_count = length-set m.takers r t ∙ at.taker_count;
             each = λ k h. elim (cases_eq k r) [
               | inl e ↦
-                  let n = at.fits.reader_count in
-                  let j = at.taker_count in
                   let first = get_or-set_same m.takers r t (open_taker m.spec) (omega arith) in
                   let second = get_or-set_same at.readers r (read_by a) (open_reader m.spec) (omega arith) in
                   rw (e, first, second) mine

@@ -1,7 +1,5 @@
 -- A machine's progress, from that of the run that its steps are: with batches of one block.
-use Rattle.std.proofs.Common.{◌≡◌, ℕ, zero, suc, ◌+◌, ◌<◌, ◌≤◌, ◌≢◌, ◌||◌, ◌&&◌, ◌⊎◌, not, Bool, true, false, List, [], ◌∷◌, ◌++◌, length, Option, Some, None, inl, inr, refl, sym, ap, subst, ◌∙◌, arith}
-use Rattle.std.specs.List.{All}
-use Rattle.std.specs.Prelude.{if◌then◌else◌, ◌==◌}
+use Rattle.std.proofs.Common.{◌≡◌, ℕ, zero, suc, ◌+◌, ◌<◌, ◌≤◌, ◌≢◌, ◌||◌, ◌&&◌, ◌⊎◌, not, Bool, true, false, List, [], ◌∷◌, ◌++◌, length, Option, Some, None, inl, inr, refl, sym, ap, subst, ◌∙◌, arith, All, if◌then◌else◌, ◌==◌}
 use Rattle.std.proofs.lemmas.Bool.{cases_Bool, cases_eq, eq-eqb, true≢false}
 use Rattle.std.proofs.lemmas.List.Elements.{All-head, All-tail}
 use Rattle.crn_proto.specs.declared.spec.RingSpec.{RingSpec}
@@ -193,7 +191,6 @@ counts (who ∷ actors) m ring at all a few =
     let shown = progress_shown m at who known adv in
     let sum = sums (moves_by a) refl (λ m ms. omega arith) adv.made rest.moves in
     let all_stores = sums (stores_by a) refl (λ m ms. omega arith) adv.made rest.moves in
-    let more_stores = more.stores in
     let own = own_turn a who in
     let here : stores_by a adv.made ≤ bit ((owner who == a) && makes_progress m who) = rw shown stores in
     let t = ring_by next adv.next in
@@ -249,7 +246,6 @@ never_stuck spec actors ring all unfinished =
           let known : All (IsActor m.spec) later = rw same mine in
           let next = replay_from later m here run.end known in
           let has = counts later m here run.end known a few' in
-          let more = has.stores in
           elim has.turns [
             | inl fin ↦ has.finishes going fin
             | inr turns ↦ elim (makes next.moves (end_of next) _ next.goes (omega arith)) [ inl some ↦ omega arith | inr fin ↦ has.finishes going fin ]

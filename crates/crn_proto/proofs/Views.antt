@@ -1,9 +1,6 @@
 -- For a ring of threads: the parts that stand in the views of a table's seats. A view has a list of parts, one for a seat of one actor, and all of them for the first seat.
-use Rattle.std.proofs.Common.{◌≡◌, ℕ, suc, zero, ◌+◌, ◌<◌, ◌≤◌, cond, eqb, List, [], ◌∷◌, ◌++◌, length, set, Some, inl, inr, refl, sym, ap, ◌∙◌, arith, zero-add}
-use Rattle.std.specs.Prelude.{slice_get}
-use Rattle.std.specs.List.{flat_map}
+use Rattle.std.proofs.Common.{◌≡◌, ℕ, suc, zero, ◌+◌, ◌<◌, ◌≤◌, cond, eqb, List, [], ◌∷◌, ◌++◌, length, set, Some, inl, inr, refl, sym, ap, ◌∙◌, arith, zero-add, slice_get, flat_map, append-nil}
 use Rattle.std.proofs.lemmas.Bool.{eq-eqb, cases_order}
-use Rattle.std.proofs.lemmas.List.{append-nil}
 use Rattle.std.proofs.lemmas.Grind.{flat_map-append}
 use Rattle.crn_proto.specs.Views.{is_of, parts_named, Rule}
 use Rattle.crn_proto.specs.declared.spec.RingSpec.{RingSpec}
