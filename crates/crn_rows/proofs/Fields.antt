@@ -1,11 +1,8 @@
 -- The field at a place of a row, and the numbers that fields spell.
-use Rattle.std.proofs.Common.{◌≡◌, ℕ, ◌<◌, ◌^◌, zero, suc, Option, Some, None, List, [], ◌∷◌, decimal, refl, rules, arith, get_or, sym, ◌∙◌, ap}
-use Rattle.std.specs.Prelude.{ℤ, pos, negsuc, Result, Ok, Err, unsigned_abs, option_map}
-use Rattle.std.proofs.Common.{FitsSigned, w64, to_z, of_z, Bor}
+use Rattle.std.proofs.Common.{◌≡◌, ℕ, ◌<◌, ◌^◌, zero, suc, Option, Some, None, List, [], ◌∷◌, decimal, refl, rules, arith, get_or, sym, ◌∙◌, ap, ℤ, pos, negsuc, Result, Ok, Err, unsigned_abs, option_map, IsUtf8, FitsSigned, w64, to_z, of_z, Bor}
 use lib.Signed.{mag}
 use Rattle.std.specs.Str.Parse.{ParsesSigned}
 use Rattle.std.proofs.lemmas.Int.{to_z-of_z}
-use Rattle.std.specs.Str.{IsUtf8}
 use Rattle.std.proofs.lemmas.Fmt.{IsAscii-decimal, IsAscii-signed, parse-signed_decimal}
 use Rattle.std.proofs.lemmas.Str.{IsUtf8-from_ascii}
 use Rattle.std.specs.Fmt.{signed_decimal}
@@ -13,9 +10,8 @@ use Rattle.csv.specs.Records.{field_at}
 
 pub found : (fs : List (List ℕ)) (i : ℕ) (f : List ℕ) → field_at fs i ≡ Some f → get_or fs i [] ≡ f
 unfolding field_at
-found [] i f e = cc
-found (g ∷ fs) zero f e = cc
 found (g ∷ fs) (suc i) f e = found fs i f e
+found fs i f e = cc
 
 pub missing : (fs : List (List ℕ)) (i : ℕ) → field_at fs i ≡ None → get_or fs i [] ≡ []
 unfolding field_at
@@ -26,10 +22,10 @@ missing (g ∷ fs) (suc i) e = missing fs i e
 pub decimal_utf8 : (f : List ℕ) (n : ℕ) → n < 2 ^ 64 → f ≡ decimal n → IsUtf8 f
 decimal_utf8 f n lt e = rw e (IsUtf8-from_ascii (decimal n) (IsAscii-decimal n lt))
 
-pub same_ok : {E : Type 0} (r : Result ℕ E) (a b : ℕ) → r ≡ Ok a → r ≡ Ok b → a ≡ b
+pub same_ok : {T E : Type 0} (r : Result T E) (a b : T) → r ≡ Ok a → r ≡ Ok b → a ≡ b
 same_ok r a b h k = cc
 
-pub never_err : {E : Type 0} (r : Result ℕ E) (e : E) (b : ℕ) → r ≡ Err e → r ≡ Ok b → ⊥
+pub never_err : {T E : Type 0} (r : Result T E) (e : E) (b : T) → r ≡ Err e → r ≡ Ok b → ⊥
 never_err r e b h k = cc
 
 fits : (z : ℤ) → unsigned_abs z < 2 ^ 63 → FitsSigned w64 z
@@ -48,12 +44,6 @@ signed_utf8 f z h e = rw e (IsUtf8-from_ascii (signed_decimal z) (IsAscii-signed
 
 pub back : (n z : ℤ) → unsigned_abs z < 2 ^ 63 → n ≡ z → to_z w64 (of_z w64 n) ≡ z
 back n z h e = rw e (to_z-of_z w64 z (fits z h))
-
-pub same_integer : {E : Type 0} (r : Result ℤ E) (a b : ℤ) → r ≡ Ok a → r ≡ Ok b → a ≡ b
-same_integer r a b h k = cc
-
-pub never_err_integer : {E : Type 0} (r : Result ℤ E) (e : E) (b : ℤ) → r ≡ Err e → r ≡ Ok b → ⊥
-never_err_integer r e b h k = cc
 
 pub found_at : (r : Option (Bor (List ℕ))) (x : Bor (List ℕ)) (fs gs : List (List ℕ)) (i : ℕ) → r ≡ Some x → option_map (λ (s : Bor (List ℕ)). s.now) r ≡ field_at fs i → fs ≡ gs → x.now ≡ get_or gs i []
 found_at r x fs gs i e h same =

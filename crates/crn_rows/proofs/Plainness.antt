@@ -1,12 +1,10 @@
 -- A row of plain fields is written as it is.
-use Rattle.std.proofs.Common.{◌≡◌, ℕ, ℤ, pos, negsuc, ◌+◌, ◌%◌, ◌<◌, ◌^◌, nat_le, nat_lt, Bool, true, false, List, [], ◌∷◌, ◌++◌, length, decimal, suc, refl, arith}
+use Rattle.std.proofs.Common.{◌≡◌, ℕ, ℤ, pos, negsuc, ◌+◌, ◌%◌, ◌<◌, ◌^◌, nat_le, nat_lt, Bool, true, false, List, [], ◌∷◌, ◌++◌, length, decimal, suc, refl, arith, Result, Ok, Err, IsErrAnd, MatchResult, OnOk, is_ok}
 use Rattle.std.proofs.lemmas.Bool.{and_parts}
 use Rattle.std.proofs.lemmas.Bool.Decides.{nat_tests}
 use Rattle.std.proofs.lemmas.Fmt.{decimal_by_steps_wide}
 use lib.Signed.{mag}
 use Rattle.std.specs.Fmt.{signed_decimal}
-use Rattle.std.specs.Prelude.{Result, Ok, Err}
-use Rattle.std.specs.Result.{IsErrAnd, MatchResult, OnOk, is_ok}
 use Rattle.csv.specs.Writing as csv
 use Rattle.csv.specs.declared.writer.WriterBuilder.{WriterBuilder}
 use Rattle.csv.specs.Writing.{default_writer, with_flexible, needs_byte, needs_quotes, field_text, fields_text, is_blank}
@@ -43,9 +41,8 @@ row_of_two flexible f g fs h =
     rw (field_plain flexible f here, fields_plain flexible (g ∷ fs) more)
 
 pub row_plain : (flexible : Bool) (fs : List (List ℕ)) → 1 < length fs → are_plain fs ≡ true → csv.row_text (writer flexible) fs ≡ row_text fs
-row_plain flexible [] several h = absurd (omega arith)
-row_plain flexible (f ∷ []) several h = absurd (omega arith)
 row_plain flexible (f ∷ g ∷ fs) several h = row_of_two flexible f g fs h
+row_plain flexible fs several h = absurd (omega arith)
 
 -- ---- texts that are plain
 
@@ -84,6 +81,5 @@ ok_of (Err x) e h = cc
 -- with another error in place of its own an answer keeps its value
 pub before_map : {T E D : Type 0} (r : Result T E) (mapped : Result T D) (x : T) (P : E → D → Type 0) → mapped ≡ Ok x
     → MatchResult r (λ y. mapped ≡ Ok y) (λ e. IsErrAnd mapped (P e)) → r ≡ Ok x
-before_map (Ok y) mapped x P m h = cc
 before_map (Err e) (Ok y) x P m h = absurd h
-before_map (Err e) (Err d) x P m h = cc
+before_map r mapped x P m h = cc

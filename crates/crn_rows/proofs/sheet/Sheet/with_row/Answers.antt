@@ -1,5 +1,4 @@
-use Rattle.std.proofs.Common.{◌≡◌, ◌≢◌, ◌++◌, sym, ◌∙◌, ap, map, List, ℕ, true}
-use Rattle.std.specs.Result.{is_ok}
+use Rattle.std.proofs.Common.{◌≡◌, ◌≢◌, ◌++◌, sym, ◌∙◌, ap, map, List, ℕ, true, is_ok}
 use Rattle.csv.specs.declared.writer.QuoteStyle.TheVariants as style
 use Rattle.crn_rows.specs.Rows.{row_text}
 use Rattle.crn_rows.proofs.Plainness.{row_written, ok_of}
