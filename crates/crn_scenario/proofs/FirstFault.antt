@@ -1,9 +1,8 @@
 -- What the first fault of a tree says: the numbers of the faults rise, so the first that holds is the least.
-use Rattle.std.proofs.Common.{◌≡◌, ◌≢◌, ℕ, ◌<◌, ◌≤◌, Bool, true, false, List, [], ◌∷◌, ◌++◌, Some, None, refl, subst, sym, arith, lit<}
+use Rattle.std.proofs.Common.{◌≡◌, ◌≢◌, ℕ, ◌<◌, ◌≤◌, Bool, true, false, List, [], ◌∷◌, ◌++◌, Some, None, refl, subst, sym, arith, lit<, IsErr, IsErrAnd}
 use Rattle.std.proofs.lemmas.Bool.{false≢true}
 use Rattle.std.proofs.lemmas.Bool.Decides.{nat_tests}
 use Rattle.std.specs.Prelude.{⊤, Result, Ok, Err, IfErr, alloc_error}
-use Rattle.std.specs.Result.{IsErr, IsErrAnd}
 use Rattle.toml.specs.Data.{Members}
 use Rattle.crn_scenario.specs.Reading.{holds_at, faults, IsLeast, HasNone, scenario_fault_number, IsDocument, RefusesScenario}
 use Rattle.crn_scenario.specs.Inner.Reading.{first_true}
@@ -16,10 +15,7 @@ AreAbove n (p ∷ ps) = (n < p.0) × AreAbove p.0 ps
 
 absent : (n j : ℕ) (ps : List (ℕ × Bool)) → AreAbove n ps → j ≤ n → holds_at j ps ≡ false
 absent n j [] h le = refl
-absent n j ((k, b) ∷ ps) h le =
-    let more : holds_at j ps ≡ false = absent k j ps h.1 (omega arith) in
-    let here : n < k = h.0 in
-    grind (arith, nat_tests, more, here)
+absent n j ((k, b) ∷ ps) h le = grind (arith, nat_tests, absent k j ps h.1 (omega arith), h.0)
 
 none_at : (j : ℕ) (ps : List (ℕ × Bool)) → first_true ps ≡ None → holds_at j ps ≡ false
 none_at j [] h = refl
@@ -67,19 +63,8 @@ least ms k e = record {
 -- and it is what the document is refused for, want of memory aside
 pub refused : (f : ScenarioFault) (bytes : List ℕ) (ms : Members) → IsDocument bytes ms → (f ≢ fault.Memory alloc_error → first_true (faults ms) ≡ Some (scenario_fault_number f)) → RefusesScenario f bytes
 refused fault.NoDocument bytes ms d e = absurd (false≢true (first_at 1 (faults ms) (e (λ q. cc))))
-refused fault.Version bytes ms d e = record { tree = ms; document = d; least = least ms 2 (e (λ q. cc)) }
-refused fault.UnknownKey bytes ms d e = record { tree = ms; document = d; least = least ms 3 (e (λ q. cc)) }
-refused fault.MissingKey bytes ms d e = record { tree = ms; document = d; least = least ms 4 (e (λ q. cc)) }
-refused fault.Kind bytes ms d e = record { tree = ms; document = d; least = least ms 5 (e (λ q. cc)) }
-refused fault.Range bytes ms d e = record { tree = ms; document = d; least = least ms 6 (e (λ q. cc)) }
-refused fault.Lengths bytes ms d e = record { tree = ms; document = d; least = least ms 7 (e (λ q. cc)) }
-refused fault.Order bytes ms d e = record { tree = ms; document = d; least = least ms 8 (e (λ q. cc)) }
-refused fault.WeightSum bytes ms d e = record { tree = ms; document = d; least = least ms 9 (e (λ q. cc)) }
-refused fault.Levels bytes ms d e = record { tree = ms; document = d; least = least ms 10 (e (λ q. cc)) }
-refused fault.Name bytes ms d e = record { tree = ms; document = d; least = least ms 11 (e (λ q. cc)) }
-refused fault.RingSize bytes ms d e = record { tree = ms; document = d; least = least ms 12 (e (λ q. cc)) }
-refused fault.PolicyCount bytes ms d e = record { tree = ms; document = d; least = least ms 13 (e (λ q. cc)) }
 refused (fault.Memory _) bytes ms d e = tt
+refused f bytes ms d e = record { tree = ms; document = d; least = least ms (scenario_fault_number f) (e (λ q. cc)) }
 
 -- what holds of an error holds of the answer that hands it on
 pub handed_on : {T : Type 0} (r : Result T ScenarioFault) (e : ScenarioFault) (P : ScenarioFault → Type 0) → IsErr r × IsErrAnd r (λ f. f ≡ e) → P e → IfErr r P

@@ -1,32 +1,30 @@
 -- What a tree without a fault gives: what stands in its tables, values and weights that can be drawn from, and the
 -- conditions of a model.
-use Rattle.std.proofs.Common.{◌≡◌, ℕ, zero, suc, ◌<◌, ◌≤◌, Bool, true, false, not, cond, ◌||◌, ◌==◌, List, [], ◌∷◌, length, slice_index_or, sym, ap, subst, Option, Some, None, refl, arith, lit<, ℤ, pos, negsuc, codes, ◌+◌, map, sum, ◌∙◌, nat_abs, All, Decides, nat_le, nat_lt, nat_eq}
-use Rattle.std.proofs.lemmas.Bool.{false≢true, and_parts}
+use Rattle.std.proofs.Common.{◌≡◌, ℕ, zero, suc, ◌<◌, ◌≤◌, Bool, true, false, not, cond, ◌||◌, ◌==◌, List, [], ◌∷◌, length, slice_index_or, sym, ap, subst, Option, Some, None, refl, arith, lit<, ℤ, pos, negsuc, codes, ◌+◌, map, sum, ◌∙◌, nat_abs, All, Decides, nat_le, nat_lt, nat_eq, option_and_then, int_le, int_lt, is_some, ◌≤ℤ◌}
+use Rattle.std.proofs.lemmas.Bool.{false≢true, and_parts, not-false, not-true, and_from, or_parts}
 use Rattle.std.proofs.lemmas.Bool.Decides.{nat_tests, Decides-and}
 use Rattle.std.proofs.lemmas.Int.{ints}
 use Rattle.std.proofs.lemmas.List.{length-map}
 use Rattle.std.proofs.lemmas.List.Elements.{All-cons, All-nil}
 use Rattle.std.proofs.lemmas.List.Sums.{sum_by-cons}
-use Rattle.std.specs.Prelude.{nat_le, option_and_then, int_le, int_lt, is_some, ◌≤ℤ◌}
 use Rattle.std.specs.List.{list_all, list_any}
-use Rattle.toml.specs.Data.{Data, string, integer, float, boolean, datetime, array, table, Items, Members, get_member, as_integer, as_str, as_array, as_table, no_items, item}
+use Rattle.toml.specs.Data.{Data, integer, array, Items, Members, get_member, as_integer, as_array, as_table, no_items, item}
 use Rattle.crn_limits.specs.declared.TheConstants.{PERIOD_LIMIT, REPLICATION_LIMIT}
 use Rattle.crn_draw.specs.declared.weights.TheConstants.{TOTAL_LIMIT}
 use Rattle.crn_draw.specs.Faults.{least_weights_fault, rises}
 use Rattle.crn_stock.specs.declared.limits.TheConstants.{ITEM_LIMIT, LEAD_LIMIT, RATE_LIMIT, SETUP_LIMIT}
 use Rattle.crn_stock.specs.Models.{IsModel, AreCosts, returned_values}
 use Rattle.crn_scenario.specs.Tree.{integer_at, natural, table_at, count_items, are_integers, are_tables, integers_of, array_at, kept}
-use Rattle.crn_scenario.specs.Fields.{Entry, entry, keys_of, number, numbers_within, keeps, keeps_at, keeps_at_all, is_within, are_within, greatest_level}
+use Rattle.crn_scenario.specs.Fields.{Entry, entry, keys_of, number, numbers_within, keeps, keeps_at, keeps_at_all, is_within, are_within, is_of_kind, greatest_level}
 use Rattle.crn_scenario.specs.Fields as fields
 use Rattle.crn_scenario.specs.declared.fields.TheConstants.{NEWEST_VERSION}
 use Rattle.crn_scenario.specs.declared.fields.ValueKind.{ValueKind}
 use Rattle.crn_scenario.specs.declared.fields.ValueKind.TheVariants as kind
 use Rattle.crn_scenario.specs.declared.fields.Rule.{Rule}
 use Rattle.crn_scenario.specs.declared.fields.Rule.TheVariants as rule
-use Rattle.crn_scenario.specs.Reading.{HasNone, version_of, inner_keep, all_keep, keeps_in, policies_at, is_version, has_other_version, has_unknown_key, lacks_key, has_other_kind, breaks_range, have_other_lengths, have_other_order, have_other_total, has_other_lengths_in, has_other_order_in, has_other_total_in, rise_above, total_of, integers_in, naturals_in, drawn, has_other_lengths, has_values_out_of_order, has_weights_out_of_range, cost_rates_of, weighted_of, returns_of, model_of}
+use Rattle.crn_scenario.specs.Reading.{HasNone, version_of, inner_keep, all_keep, keeps_in, policies_at, is_version, has_other_version, has_unknown_key, lacks_key, has_other_kind, breaks_range, have_other_lengths, have_other_order, have_other_total, has_other_lengths_in, has_other_order_in, has_other_total_in, rise_above, total_of, integers_in, naturals_in, drawn, has_other_lengths, has_values_out_of_order, has_weights_out_of_range, cost_rates_of, returns_of, model_of}
 use Rattle.crn_scenario.specs.Reading as reading
 use Rattle.crn_scenario.specs.Inner.Reading.{AreDraws, MayBeDraws}
-use Rattle.crn_scenario.proofs.Bools.{passed, failed, and_true, neither}
 
 -- ---- numbers that are not below zero
 
@@ -35,6 +33,20 @@ within low high n =
     Decides-and (int_le (pos low) (pos n)) (int_le (pos n) (pos high))
     (λ e. grind (arith, ints, nat_tests, e), λ h. grind (arith, ints, nat_tests, h))
     (λ e. grind (arith, ints, nat_tests, e), λ h. grind (arith, ints, nat_tests, h))
+
+-- a number within a range
+pub record IsNumber (low high : ℕ) (o : Option ℤ) : Type 0 where
+  pub value : ℕ
+  pub is : o ≡ Some (pos value)
+  pub at_least : low ≤ value
+  pub at_most : value ≤ high
+
+number_is : (low high : ℕ) (o : Option ℤ) → is_some o ≡ true → is_within (pos low) (pos high) o ≡ true → IsNumber low high o
+number_is low high None some h = absurd (false≢true some)
+number_is low high (Some (pos n)) some h =
+    let parts = (within low high n).0 h in
+    record { value = n; is = refl; at_least = parts.0; at_most = parts.1 }
+number_is low high (Some (negsuc n)) some h = absurd (false≢true h)
 
 -- ---- a fault that does not hold
 
@@ -45,24 +57,15 @@ one true h = absurd (h refl)
 -- ---- the version
 
 -- one of the versions that there are
-pub record IsVersion (o : Option ℤ) : Type 0 where
-  pub number : ℕ
-  pub is : o ≡ Some (pos number)
-  pub at_least : 1 ≤ number
-  pub at_most : number ≤ NEWEST_VERSION
-
-is_one : (o : Option ℤ) → is_version o ≡ true → IsVersion o
+is_one : (o : Option ℤ) → is_version o ≡ true → IsNumber 1 NEWEST_VERSION o
 is_one None h = absurd (false≢true h)
-is_one (Some (pos n)) h =
-    let parts = (within 1 NEWEST_VERSION n).0 h in
-    record { number = n; is = refl; at_least = parts.0; at_most = parts.1 }
-is_one (Some (negsuc n)) h = absurd (false≢true h)
+is_one (Some z) h = number_is 1 NEWEST_VERSION (Some z) refl h
 
-pub version : (ms : Members) → HasNone ms → IsVersion (integer_at (codes "version") ms)
+version : (ms : Members) → HasNone ms → IsNumber 1 NEWEST_VERSION (integer_at (codes "version") ms)
 unfolding has_other_version
-version ms h = is_one (integer_at (codes "version") ms) (passed (is_version (integer_at (codes "version") ms)) (one (has_other_version ms) (h.none 2)))
+version ms h = is_one (integer_at (codes "version") ms) (not-false (is_version (integer_at (codes "version") ms)) (one (has_other_version ms) (h.none 2)))
 
-pub version_is : (ms : Members) (n : ℕ) → integer_at (codes "version") ms ≡ Some (pos n) → version_of ms ≡ n
+version_is : (ms : Members) (n : ℕ) → integer_at (codes "version") ms ≡ Some (pos n) → version_of ms ≡ n
 unfolding version_of
 version_is ms n e = ap natural e
 
@@ -78,11 +81,11 @@ are_old : (version : ℕ) → nat_le 1 version ≡ true → AreOld version
 unfolding keys_of
 are_old version e = record { costs = rw e refl; demand = rw e refl; lead = rw e refl; returns = rw e refl; policy = rw e refl }
 
-has_first : (ms : Members) → IsVersion (integer_at (codes "version") ms) → nat_le 1 (version_of ms) ≡ true
-has_first ms v = let low : 1 ≤ v.number = v.at_least in subst (λ (n : ℕ). nat_le 1 n ≡ true) (sym (version_is ms v.number v.is)) (grind (arith, nat_tests, low))
-
-pub old : (ms : Members) → IsVersion (integer_at (codes "version") ms) → AreOld (version_of ms)
-old ms v = are_old (version_of ms) (has_first ms v)
+has_first : (ms : Members) → HasNone ms → nat_le 1 (version_of ms) ≡ true
+has_first ms h =
+    let v = version ms h in
+    let low : 1 ≤ v.value = v.at_least in
+    subst (λ (n : ℕ). nat_le 1 n ≡ true) (sym (version_is ms v.value v.is)) (grind (arith, nat_tests, low))
 
 -- ---- the rules of all tables
 
@@ -94,69 +97,54 @@ pub record AllKeep (r : Rule) (ms : Members) : Type 0 where
   pub returns : keeps_in r fields.returns (table_at (codes "returns") ms) ≡ true
   pub policies : list_all (keeps r fields.policy) (policies_at ms) ≡ true
 
-record InnerKeep (r : Rule) (version : ℕ) (ms : Members) : Type 0 where
-  costs : keeps_in r (keys_of version fields.costs) (table_at (codes "costs") ms) ≡ true
-  demand : keeps_in r (keys_of version fields.demand) (table_at (codes "demand") ms) ≡ true
-  lead : keeps_in r (keys_of version fields.lead) (table_at (codes "lead") ms) ≡ true
-  returns : keeps_in r (keys_of version fields.returns) (table_at (codes "returns") ms) ≡ true
-
-inner_parts : (r : Rule) (version : ℕ) (ms : Members) → inner_keep r version ms ≡ true → InnerKeep r version ms
-unfolding inner_keep
-inner_parts r version ms h =
-    let d = and_parts _ _ h in
-    let c = and_parts _ _ d.0 in
-    let b = and_parts _ _ c.0 in
-    record { costs = b.0; demand = b.1; lead = c.1; returns = d.1 }
-
 -- a table keeps a rule with the same keys
 pub same_in : (r : Rule) (es fs : List Entry) (o : Option Members) → es ≡ fs → keeps_in r es o ≡ true → keeps_in r fs o ≡ true
 same_in r es fs o e h = subst (λ (x : List Entry). keeps_in r x o ≡ true) e h
 
-all_kept : (r : Rule) (ms : Members) → HasNone ms → all_keep r ms ≡ true → AllKeep r ms
-unfolding all_keep
-all_kept r ms none h =
-    let d = and_parts _ _ h in
-    let c = and_parts _ _ d.0 in
-    let inside = inner_parts r (version_of ms) ms c.1 in
-    let keys = old ms (version ms none) in
+-- no rule is broken
+keeps_rule : (ms : Members) → HasNone ms → (r : Rule) → all_keep r ms ≡ true
+unfolding has_unknown_key lacks_key has_other_kind breaks_range
+keeps_rule ms h rule.Known = not-false (all_keep rule.Known ms) (one (has_unknown_key ms) (h.none 3))
+keeps_rule ms h rule.Present = not-false (all_keep rule.Present ms) (one (lacks_key ms) (h.none 4))
+keeps_rule ms h rule.Kinds = not-false (all_keep rule.Kinds ms) (one (has_other_kind ms) (h.none 5))
+keeps_rule ms h rule.Ranges = not-false (all_keep rule.Ranges ms) (one (breaks_range ms) (h.none 6))
+
+pub all_kept : (ms : Members) → HasNone ms → (r : Rule) → AllKeep r ms
+unfolding all_keep inner_keep
+all_kept ms none r =
+    let all = and_parts _ _ (keeps_rule ms none r) in
+    let tables = and_parts _ _ all.0 in
+    let first_three = and_parts _ _ tables.1 in
+    let first_two = and_parts _ _ first_three.0 in
+    let first = and_parts _ _ first_two.0 in
+    let keys = are_old (version_of ms) (has_first ms none) in
     record {
-      top = c.0;
-      costs = same_in r _ _ _ keys.costs inside.costs;
-      demand = same_in r _ _ _ keys.demand inside.demand;
-      lead = same_in r _ _ _ keys.lead inside.lead;
-      returns = same_in r _ _ _ keys.returns inside.returns;
-      policies = subst (λ (es : List Entry). list_all (keeps r es) (policies_at ms) ≡ true) keys.policy d.1;
+      top = tables.0;
+      costs = same_in r _ _ _ keys.costs first.0;
+      demand = same_in r _ _ _ keys.demand first.1;
+      lead = same_in r _ _ _ keys.lead first_two.1;
+      returns = same_in r _ _ _ keys.returns first_three.1;
+      policies = subst (λ (es : List Entry). list_all (keeps r es) (policies_at ms) ≡ true) keys.policy all.1;
     }
-
-pub known : (ms : Members) → HasNone ms → AllKeep rule.Known ms
-unfolding has_unknown_key
-known ms h = all_kept rule.Known ms h (passed (all_keep rule.Known ms) (one (has_unknown_key ms) (h.none 3)))
-
-pub present : (ms : Members) → HasNone ms → AllKeep rule.Present ms
-unfolding lacks_key
-present ms h = all_kept rule.Present ms h (passed (all_keep rule.Present ms) (one (lacks_key ms) (h.none 4)))
-
-pub kinds : (ms : Members) → HasNone ms → AllKeep rule.Kinds ms
-unfolding has_other_kind
-kinds ms h = all_kept rule.Kinds ms h (passed (all_keep rule.Kinds ms) (one (has_other_kind ms) (h.none 5)))
-
-pub ranges : (ms : Members) → HasNone ms → AllKeep rule.Ranges ms
-unfolding breaks_range
-ranges ms h = all_kept rule.Ranges ms h (passed (all_keep rule.Ranges ms) (one (breaks_range ms) (h.none 6)))
 
 -- ---- a table
 
 -- a table keeps all rules
-pub record Kept (es : List Entry) (ms : Members) : Type 0 where
-  pub present : keeps_at_all rule.Present es ms ≡ true
-  pub kinds : keeps_at_all rule.Kinds es ms ≡ true
-  pub ranges : keeps_at_all rule.Ranges es ms ≡ true
+abbrev pub Kept : List Entry → Members → Type 0
+Kept es ms = (r : Rule) → keeps r es ms ≡ true
 
 -- what stands at a key keeps them
-pub record KeptAt (k : ValueKind) (o : Option Data) : Type 0 where
-  pub present : keeps_at rule.Present k o ≡ true
-  pub kinds : keeps_at rule.Kinds k o ≡ true
-  pub ranges : keeps_at rule.Ranges k o ≡ true
+abbrev pub KeptAt : ValueKind → Option Data → Type 0
+KeptAt k o = (r : Rule) → keeps_at r k o ≡ true
+
+any_known : (es : List Entry) (ms : Members) → keeps_at_all rule.Known es ms ≡ true
+any_known [] ms = refl
+any_known (e ∷ es) ms = any_known es ms
+
+-- each key keeps what the table does
+keeps_each : (r : Rule) (es : List Entry) (ms : Members) → keeps r es ms ≡ true → keeps_at_all r es ms ≡ true
+keeps_each rule.Known es ms h = any_known es ms
+keeps_each r es ms h = h
 
 kept_one : (r : Rule) (es : List Entry) (ms : Members) (i : ℕ) (d : Entry) → keeps_at_all r es ms ≡ true → i < length es → keeps_at r (slice_index_or es i d).kind (get_member (slice_index_or es i d).name ms) ≡ true
 kept_one r [] ms i d h lt = absurd (omega (arith, lt))
@@ -164,11 +152,7 @@ kept_one r (e ∷ es) ms zero d h lt = (and_parts _ _ h).0
 kept_one r (e ∷ es) ms (suc i) d h lt = kept_one r es ms i d (and_parts _ _ h).1 (omega (arith, lt))
 
 pub kept_at : (es : List Entry) (ms : Members) (i : ℕ) (d : Entry) → Kept es ms → i < length es → KeptAt (slice_index_or es i d).kind (get_member (slice_index_or es i d).name ms)
-kept_at es ms i d h lt = record {
-  present = kept_one rule.Present es ms i d h.present lt;
-  kinds = kept_one rule.Kinds es ms i d h.kinds lt;
-  ranges = kept_one rule.Ranges es ms i d h.ranges lt;
-}
+kept_at es ms i d h lt r = kept_one r es ms i d (keeps_each r es ms (h r)) lt
 
 -- ---- the document
 
@@ -189,41 +173,32 @@ one_held r version (e ∷ es) ms (suc i) h lt since = one_held r version es ms i
     rest false f fs k = k
 
 pub held_at : (ms : Members) (i : ℕ) → HasNone ms → i < length fields.top_table → nat_le (slice_index_or fields.top_table i nowhere).since (version_of ms) ≡ true → KeptAt (slice_index_or fields.top_table i nowhere).kind (get_member (slice_index_or fields.top_table i nowhere).name ms)
-held_at ms i h lt since = record {
-  present = one_held rule.Present (version_of ms) fields.top_table ms i (present ms h).top lt since;
-  kinds = one_held rule.Kinds (version_of ms) fields.top_table ms i (kinds ms h).top lt since;
-  ranges = one_held rule.Ranges (version_of ms) fields.top_table ms i (ranges ms h).top lt since;
-}
+held_at ms i h lt since r = one_held r (version_of ms) fields.top_table ms i (keeps_each r _ ms (all_kept ms h r).top) lt since
 
 -- a key of all versions
 pub top_at : (ms : Members) (i : ℕ) → HasNone ms → i < length fields.top_table → (slice_index_or fields.top_table i nowhere).since ≡ 1 → KeptAt (slice_index_or fields.top_table i nowhere).kind (get_member (slice_index_or fields.top_table i nowhere).name ms)
-top_at ms i h lt e = held_at ms i h lt (subst (λ (n : ℕ). nat_le n (version_of ms) ≡ true) (sym e) (has_first ms (version ms h)))
+top_at ms i h lt e = held_at ms i h lt (subst (λ (n : ℕ). nat_le n (version_of ms) ≡ true) (sym e) (has_first ms h))
 
 -- ---- what stands at a key
 
--- a number within a range
-pub record IsNumber (low high : ℕ) (o : Option ℤ) : Type 0 where
-  pub value : ℕ
-  pub is : o ≡ Some (pos value)
-  pub at_least : low ≤ value
-  pub at_most : value ≤ high
-
 pub number_kept : (low high : ℕ) (o : Option Data) → KeptAt (number low high) o → IsNumber low high (option_and_then as_integer o)
-number_kept low high None h = absurd (false≢true h.present)
-number_kept low high (Some (integer (pos n))) h =
-    let parts = (within low high n).0 h.ranges in
-    record { value = n; is = refl; at_least = parts.0; at_most = parts.1 }
-number_kept low high (Some (integer (negsuc n))) h = absurd (false≢true h.ranges)
-number_kept low high (Some d) h = absurd (false≢true h.kinds)
+number_kept low high None h = absurd (false≢true (h rule.Present))
+number_kept low high (Some d) h = number_is low high (as_integer d) (h rule.Kinds) (h rule.Ranges)
 
-pub record IsInteger (o : Option ℤ) : Type 0 where
-  pub value : ℤ
+-- something
+pub record Stands {A : Type 0} (o : Option A) : Type 0 where
+  pub value : A
   pub is : o ≡ Some value
 
-pub integer_kept : (o : Option Data) → KeptAt kind.Integer o → IsInteger (option_and_then as_integer o)
-integer_kept None h = absurd (false≢true h.present)
-integer_kept (Some (integer z)) h = record { value = z; is = refl }
-integer_kept (Some d) h = absurd (false≢true h.kinds)
+stands : {A : Type 0} (o : Option A) → is_some o ≡ true → Stands o
+stands None h = absurd (false≢true h)
+stands (Some x) h = record { value = x; is = refl }
+
+-- a value that is of its kind if it can be taken so
+pub kept_as : {A : Type 0} (k : ValueKind) (take : Data → Option A) (o : Option Data) → ((d : Data) → is_of_kind k d ≡ true → is_some (take d) ≡ true) → KeptAt k o
+    → Stands (option_and_then take o)
+kept_as k take None can h = absurd (false≢true (h rule.Present))
+kept_as k take (Some d) can h = stands (take d) (can d (h rule.Kinds))
 
 -- a list of numbers within a range
 pub record IsList (low high : ℕ) (o : Option Items) : Type 0 where
@@ -234,29 +209,11 @@ pub record IsList (low high : ℕ) (o : Option Items) : Type 0 where
   pub within : are_within (pos low) (pos high) (integers_of items) ≡ true
 
 pub list_kept : (low high : ℕ) (o : Option Data) → KeptAt (numbers_within low high) o → IsList low high (option_and_then as_array o)
-list_kept low high None h = absurd (false≢true h.present)
+list_kept low high None h = absurd (false≢true (h rule.Present))
 list_kept low high (Some (array ds)) h =
-    let parts = and_parts (not (count_items ds == 0)) _ h.ranges in
-    record { items = ds; is = refl; integers = h.kinds; some = failed (count_items ds == 0) parts.0; within = parts.1 }
-list_kept low high (Some d) h = absurd (false≢true h.kinds)
-
-pub record IsText (o : Option (List ℕ)) : Type 0 where
-  pub value : List ℕ
-  pub is : o ≡ Some value
-
-pub text_kept : (o : Option Data) → KeptAt kind.Text o → IsText (option_and_then as_str o)
-text_kept None h = absurd (false≢true h.present)
-text_kept (Some (string s)) h = record { value = s; is = refl }
-text_kept (Some d) h = absurd (false≢true h.kinds)
-
-pub record IsTable (o : Option Members) : Type 0 where
-  pub members : Members
-  pub is : o ≡ Some members
-
-pub table_kept : (o : Option Data) → KeptAt kind.Table o → IsTable (option_and_then as_table o)
-table_kept None h = absurd (false≢true h.present)
-table_kept (Some (table ms)) h = record { members = ms; is = refl }
-table_kept (Some d) h = absurd (false≢true h.kinds)
+    let parts = and_parts (not (count_items ds == 0)) _ (h rule.Ranges) in
+    record { items = ds; is = refl; integers = h rule.Kinds; some = not-true (count_items ds == 0) parts.0; within = parts.1 }
+list_kept low high (Some d) h = absurd (false≢true (h rule.Kinds))
 
 -- a list of tables
 pub record IsTables (o : Option Items) : Type 0 where
@@ -265,19 +222,15 @@ pub record IsTables (o : Option Items) : Type 0 where
   pub tables : are_tables items ≡ true
 
 pub tables_kept : (o : Option Data) → KeptAt kind.Tables o → IsTables (option_and_then as_array o)
-tables_kept None h = absurd (false≢true h.present)
-tables_kept (Some (array ds)) h = record { items = ds; is = refl; tables = h.kinds }
-tables_kept (Some d) h = absurd (false≢true h.kinds)
+tables_kept None h = absurd (false≢true (h rule.Present))
+tables_kept (Some (array ds)) h = record { items = ds; is = refl; tables = h rule.Kinds }
+tables_kept (Some d) h = absurd (false≢true (h rule.Kinds))
 
 -- ---- the inner tables
 
 -- a table that stands there keeps the rules
-inner : (es : List Entry) (o : Option Members) (t : Members) → o ≡ Some t → keeps_in rule.Present es o ≡ true → keeps_in rule.Kinds es o ≡ true → keeps_in rule.Ranges es o ≡ true → Kept es t
-inner es None t e p k r = cc
-inner es (Some m) t e p k r = subst (λ (x : Members). Kept es x) (some_same m t e) (record { present = p; kinds = k; ranges = r })
-  where
-    some_same : (a b : Members) → Some a ≡ Some b → a ≡ b
-    some_same a b s = cc
+inner : (es : List Entry) (o : Option Members) (t : Members) → o ≡ Some t → ((r : Rule) → keeps_in r es o ≡ true) → Kept es t
+inner es o t e h r = subst (λ (x : Option Members). keeps_in r es x ≡ true) e (h r)
 
 pub record IsKept (es : List Entry) (o : Option Members) : Type 0 where
   pub members : Members
@@ -286,28 +239,28 @@ pub record IsKept (es : List Entry) (o : Option Members) : Type 0 where
 
 pub costs_kept : (ms : Members) → HasNone ms → IsKept fields.costs (table_at (codes "costs") ms)
 costs_kept ms h =
-    let t = table_kept (get_member (codes "costs") ms) (top_at ms 6 h (lit< tt) refl) in
-    record { members = t.members; is = t.is; kept = inner fields.costs (table_at (codes "costs") ms) t.members t.is (present ms h).costs (kinds ms h).costs (ranges ms h).costs }
+    let t = kept_as kind.Table as_table (get_member (codes "costs") ms) (λ d e. e) (top_at ms 6 h (lit< tt) refl) in
+    record { members = t.value; is = t.is; kept = inner fields.costs (table_at (codes "costs") ms) t.value t.is (λ r. (all_kept ms h r).costs) }
 
 pub demand_kept : (ms : Members) → HasNone ms → IsKept fields.demand (table_at (codes "demand") ms)
 demand_kept ms h =
-    let t = table_kept (get_member (codes "demand") ms) (top_at ms 7 h (lit< tt) refl) in
-    record { members = t.members; is = t.is; kept = inner fields.demand (table_at (codes "demand") ms) t.members t.is (present ms h).demand (kinds ms h).demand (ranges ms h).demand }
+    let t = kept_as kind.Table as_table (get_member (codes "demand") ms) (λ d e. e) (top_at ms 7 h (lit< tt) refl) in
+    record { members = t.value; is = t.is; kept = inner fields.demand (table_at (codes "demand") ms) t.value t.is (λ r. (all_kept ms h r).demand) }
 
 -- what customers return, where a table stands there
 pub returns_kept : (ms t : Members) → HasNone ms → table_at (codes "returns") ms ≡ Some t → Kept fields.returns t
-returns_kept ms t h e = inner fields.returns (table_at (codes "returns") ms) t e (present ms h).returns (kinds ms h).returns (ranges ms h).returns
+returns_kept ms t h e = inner fields.returns (table_at (codes "returns") ms) t e (λ r. (all_kept ms h r).returns)
 
 pub lead_kept : (ms : Members) → HasNone ms → IsKept fields.lead (table_at (codes "lead") ms)
 lead_kept ms h =
-    let t = table_kept (get_member (codes "lead") ms) (top_at ms 8 h (lit< tt) refl) in
-    record { members = t.members; is = t.is; kept = inner fields.lead (table_at (codes "lead") ms) t.members t.is (present ms h).lead (kinds ms h).lead (ranges ms h).lead }
+    let t = kept_as kind.Table as_table (get_member (codes "lead") ms) (λ d e. e) (top_at ms 8 h (lit< tt) refl) in
+    record { members = t.value; is = t.is; kept = inner fields.lead (table_at (codes "lead") ms) t.value t.is (λ r. (all_kept ms h r).lead) }
 
 -- ---- lists of integers within a range
 
-kept_length : (o : Option ℤ) (zs : List ℤ) → is_some o ≡ true → length (kept o zs) ≡ length zs + 1
-kept_length None zs h = cc
-kept_length (Some z) zs h = omega arith
+pub kept_length : {A : Type 0} (o : Option A) (xs : List A) → is_some o ≡ true → length (kept o xs) ≡ length xs + 1
+kept_length None xs h = cc
+kept_length (Some x) xs h = omega arith
 
 length_integers : (ds : Items) → are_integers ds ≡ true → length (integers_of ds) ≡ count_items ds
 length_integers no_items h = refl
@@ -315,41 +268,31 @@ length_integers (item d ds) h =
     let parts = and_parts (is_some (as_integer d)) (are_integers ds) h in
     omega (arith, kept_length (as_integer d) (integers_of ds) parts.0, length_integers ds parts.1)
 
--- the first of a list within a range, and the rest
-record IsHead (low high : ℕ) (z : ℤ) (zs : List ℤ) : Type 0 where
-  value : ℕ
-  is : z ≡ pos value
-  at_least : low ≤ value
-  at_most : value ≤ high
-  rest : are_within (pos low) (pos high) zs ≡ true
-
-head_within : (low high : ℕ) (z : ℤ) (zs : List ℤ) → are_within (pos low) (pos high) (z ∷ zs) ≡ true → IsHead low high z zs
-head_within low high (pos n) zs h =
+widened : (low high : ℕ) (zs : List ℤ) → high ≤ TOTAL_LIMIT → are_within (pos low) (pos high) zs ≡ true → are_within (pos 0) (pos TOTAL_LIMIT) zs ≡ true
+widened low high [] le h = refl
+widened low high (pos n ∷ zs) le h =
     let parts = and_parts (is_within (pos low) (pos high) (Some (pos n))) (are_within (pos low) (pos high) zs) h in
     let range = (within low high n).0 parts.0 in
-    record { value = n; is = refl; at_least = range.0; at_most = range.1; rest = parts.1 }
-head_within low high (negsuc n) zs h = absurd (false≢true h)
+    and_from _ _ ((within 0 TOTAL_LIMIT n).1 (omega arith, omega arith)) (widened low high zs le parts.1)
+widened low high (negsuc n ∷ zs) le h = absurd (false≢true h)
 
-pub widened : (low high : ℕ) (zs : List ℤ) → high ≤ TOTAL_LIMIT → are_within (pos low) (pos high) zs ≡ true → are_within (pos 0) (pos TOTAL_LIMIT) zs ≡ true
-widened low high [] le h = refl
-widened low high (z ∷ zs) le h =
-    let f = head_within low high z zs h in
-    let n : ℕ = f.value in
-    let top : n ≤ high = f.at_most in
-    let here : is_within (pos 0) (pos TOTAL_LIMIT) (Some z) ≡ true = subst (λ (x : ℤ). is_within (pos 0) (pos TOTAL_LIMIT) (Some x) ≡ true) (sym f.is) ((within 0 TOTAL_LIMIT n).1 (omega arith, omega arith)) in
-    and_true _ _ here (widened low high zs le f.rest)
-
-pub all_high : (low high : ℕ) (zs : List ℤ) → are_within (pos low) (pos high) zs ≡ true → All (λ v. v ≤ high) (map nat_abs zs)
+all_high : (low high : ℕ) (zs : List ℤ) → are_within (pos low) (pos high) zs ≡ true → All (λ v. v ≤ high) (map nat_abs zs)
 all_high low high [] h = All-nil (λ v. v ≤ high)
-all_high low high (z ∷ zs) h =
-    let f = head_within low high z zs h in
-    All-cons (λ v. v ≤ high) (nat_abs z) (map nat_abs zs) (subst (λ (x : ℤ). nat_abs x ≤ high) (sym f.is) f.at_most) (all_high low high zs f.rest)
+all_high low high (pos n ∷ zs) h =
+    let parts = and_parts (is_within (pos low) (pos high) (Some (pos n))) (are_within (pos low) (pos high) zs) h in
+    All-cons (λ v. v ≤ high) n (map nat_abs zs) ((within low high n).0 parts.0).1 (all_high low high zs parts.1)
+all_high low high (negsuc n ∷ zs) h = absurd (false≢true h)
 
-pub all_low : (low high : ℕ) (zs : List ℤ) → are_within (pos low) (pos high) zs ≡ true → All (λ v. low ≤ v) (map nat_abs zs)
+all_low : (low high : ℕ) (zs : List ℤ) → are_within (pos low) (pos high) zs ≡ true → All (λ v. low ≤ v) (map nat_abs zs)
 all_low low high [] h = All-nil (λ v. low ≤ v)
-all_low low high (z ∷ zs) h =
-    let f = head_within low high z zs h in
-    All-cons (λ v. low ≤ v) (nat_abs z) (map nat_abs zs) (subst (λ (x : ℤ). low ≤ nat_abs x) (sym f.is) f.at_least) (all_low low high zs f.rest)
+all_low low high (pos n ∷ zs) h =
+    let parts = and_parts (is_within (pos low) (pos high) (Some (pos n))) (are_within (pos low) (pos high) zs) h in
+    All-cons (λ v. low ≤ v) n (map nat_abs zs) ((within low high n).0 parts.0).0 (all_low low high zs parts.1)
+all_low low high (negsuc n ∷ zs) h = absurd (false≢true h)
+
+-- of a list within a range, the rest is
+rest_within : (low high : ℕ) (z : ℤ) (zs : List ℤ) → are_within (pos low) (pos high) (z ∷ zs) ≡ true → are_within (pos low) (pos high) zs ≡ true
+rest_within low high z zs h = (and_parts (is_within (pos low) (pos high) (Some z)) (are_within (pos low) (pos high) zs) h).1
 
 above : (l n : ℕ) → int_lt (pos l) (pos n) ≡ true → nat_lt l n ≡ true
 above l n h = grind (arith, ints, nat_tests, h)
@@ -358,20 +301,18 @@ rises_after : (low high l : ℕ) (zs : List ℤ) → are_within (pos low) (pos h
 rises_after low high l [] h r = refl
 rises_after low high l (pos n ∷ zs) h r =
     let parts = and_parts (int_lt (pos l) (pos n)) (rise_above (Some (pos n)) zs) r in
-    let f = head_within low high (pos n) zs h in
-    and_true _ _ (above l n parts.0) (rises_after low high n zs f.rest parts.1)
+    and_from _ _ (above l n parts.0) (rises_after low high n zs (rest_within low high (pos n) zs h) parts.1)
 rises_after low high l (negsuc n ∷ zs) h r = absurd (false≢true h)
 
 pub do_rise : (low high : ℕ) (zs : List ℤ) → are_within (pos low) (pos high) zs ≡ true → rise_above None zs ≡ true → rises (map nat_abs zs) ≡ true
 do_rise low high [] h r = refl
-do_rise low high (pos n ∷ zs) h r = let f = head_within low high (pos n) zs h in rises_after low high n zs f.rest r
+do_rise low high (pos n ∷ zs) h r = rises_after low high n zs (rest_within low high (pos n) zs h) r
 do_rise low high (negsuc n ∷ zs) h r = absurd (false≢true h)
 
 pub total-sum : (low high : ℕ) (zs : List ℤ) → are_within (pos low) (pos high) zs ≡ true → total_of zs ≡ pos (sum (map nat_abs zs))
 total-sum low high [] h = refl
 total-sum low high (pos n ∷ zs) h =
-    let f = head_within low high (pos n) zs h in
-    omega (arith, ints, total-sum low high zs f.rest, sum_by-cons (λ (y : ℕ). y) n (map nat_abs zs))
+    omega (arith, ints, total-sum low high zs (rest_within low high (pos n) zs h), sum_by-cons (λ (y : ℕ). y) n (map nat_abs zs))
 total-sum low high (negsuc n ∷ zs) h = absurd (false≢true h)
 
 -- ---- values and weights that have no fault
@@ -379,14 +320,14 @@ total-sum low high (negsuc n ∷ zs) h = absurd (false≢true h)
 pub lengths_agree : (o p : Option Items) (vs ws : Items) → o ≡ Some vs → p ≡ Some ws → have_other_lengths o p ≡ false → count_items vs ≡ count_items ws
 lengths_agree o p vs ws e f h =
     let k : have_other_lengths (Some vs) (Some ws) ≡ false = subst (λ (x : Option Items). have_other_lengths x (Some ws) ≡ false) e (subst (λ (x : Option Items). have_other_lengths o x ≡ false) f h) in
-    let same : (count_items vs == count_items ws) ≡ true = passed (count_items vs == count_items ws) k in
+    let same : (count_items vs == count_items ws) ≡ true = not-false (count_items vs == count_items ws) k in
     grind (arith, nat_tests, same)
 
 pub order_kept : (o : Option Items) (vs : Items) → o ≡ Some vs → have_other_order o ≡ false → rise_above None (integers_of vs) ≡ true
-order_kept o vs e h = passed (rise_above None (integers_of vs)) (subst (λ (x : Option Items). have_other_order x ≡ false) e h)
+order_kept o vs e h = not-false (rise_above None (integers_of vs)) (subst (λ (x : Option Items). have_other_order x ≡ false) e h)
 
 pub total_kept : (o : Option Items) (ws : Items) → o ≡ Some ws → have_other_total o ≡ false → is_within (pos 1) (pos TOTAL_LIMIT) (Some (total_of (integers_of ws))) ≡ true
-total_kept o ws e h = passed (is_within (pos 1) (pos TOTAL_LIMIT) (Some (total_of (integers_of ws)))) (subst (λ (x : Option Items). have_other_total x ≡ false) e h)
+total_kept o ws e h = not-false (is_within (pos 1) (pos TOTAL_LIMIT) (Some (total_of (integers_of ws)))) (subst (λ (x : Option Items). have_other_total x ≡ false) e h)
 
 none_of : (vs ws : List ℕ) → (length vs == 0) ≡ false → length vs ≡ length ws → rises vs ≡ true → 1 ≤ sum ws → sum ws ≤ TOTAL_LIMIT → least_weights_fault vs ws ≡ None
 none_of vs ws some same rise low high =
@@ -453,9 +394,9 @@ pub record NoneHas (fault : Option Members → Bool) (ms : Members) : Type 0 whe
 
 none_has : (fault : Option Members → Bool) (ms : Members) → list_any (λ key. fault (table_at key ms)) drawn ≡ false → NoneHas fault ms
 none_has fault ms h =
-    let a = neither _ _ h in
-    let b = neither _ _ a.1 in
-    let c = neither _ _ b.1 in
+    let a = or_parts _ _ h in
+    let b = or_parts _ _ a.1 in
+    let c = or_parts _ _ b.1 in
     record { demand = a.0; lead = b.0; returns = c.0 }
 
 pub lengths : (ms : Members) → HasNone ms → NoneHas has_other_lengths_in ms
@@ -471,8 +412,7 @@ unfolding has_weights_out_of_range
 totals ms h = none_has has_other_total_in ms (one (has_weights_out_of_range ms) (h.none 9))
 
 draws_at : (low high : ℕ) (o : Option Members) (t : Members) → high ≤ TOTAL_LIMIT → o ≡ Some t → Kept (fields.draws low high) t → has_other_lengths_in o ≡ false → has_other_order_in o ≡ false → has_other_total_in o ≡ false → AreDraws o
-draws_at low high o t le e k a b c =
-    subst (λ (x : Option Members). AreDraws x) (sym e) (draws low high t le k (subst (λ (x : Option Members). has_other_lengths_in x ≡ false) e a) (subst (λ (x : Option Members). has_other_order_in x ≡ false) e b) (subst (λ (x : Option Members). has_other_total_in x ≡ false) e c))
+draws_at low high o t le e k a b c = rw e (draws low high t le k (rw e at a) (rw e at b) (rw e at c))
 
 pub demand_draws : (ms : Members) → HasNone ms → AreDraws (table_at (codes "demand") ms)
 demand_draws ms h =

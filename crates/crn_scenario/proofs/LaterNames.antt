@@ -1,11 +1,9 @@
 -- Names from the last one on, each beside the later ones, which a set holds.
-use Rattle.std.proofs.Common.{◌≡◌, ◌∙◌, ℕ, zero, suc, ◌+◌, ◌-◌, ◌<◌, Bool, true, false, cond, not, ◌&&◌, ◌||◌, List, [], ◌∷◌, Bor, map, drop, length, get_or, refl, sym, ap, subst, arith}
+use Rattle.std.proofs.Common.{◌≡◌, ◌∙◌, ℕ, zero, suc, ◌+◌, ◌-◌, ◌<◌, Bool, true, false, cond, not, ◌&&◌, ◌||◌, List, [], ◌∷◌, Bor, map, drop, length, get_or, refl, sym, ap, subst, arith, nat_cmp, bytes_eq}
 use Rattle.std.proofs.lemmas.List.{drop_more}
 use Rattle.std.proofs.lemmas.Map.Text.{is_eq-slice_cmp}
 use Rattle.std.specs.BTreeSet.{BTreeSet, contains, Updates}
 use Rattle.std.specs.Cmp.Lexicographic.{slice_cmp}
-use Rattle.std.specs.Ordering.{nat_cmp}
-use Rattle.std.specs.Str.{bytes_eq}
 use Rattle.crn_scenario.specs.Reading.{is_among, all_differ}
 
 -- the texts of the last k
@@ -36,8 +34,7 @@ still_holds names i d old new lt h u = λ q.
     rw (one_more names i d lt) (after ∙ cond_or (bytes_eq name.now q.now) (is_among (last_names i names) q.now))
 
 differ_more : (a b : Bool) → true ≡ not a → b ≡ true → (not a && b) ≡ true
-differ_more true b e h = cc
-differ_more false b e h = h
+differ_more a b e h = rw (← e, h) refl
 
 -- a name that is none of the later ones
 pub still_differ : (names : List (Bor (List ℕ))) (i : ℕ) (d : Bor (List ℕ)) (held : BTreeSet (Bor (List ℕ))) → i < length names → Holds held (last_names i names) → true ≡ not (contains (λ x y. slice_cmp nat_cmp x.now y.now) held (get_or names (length names - 1 - i) d)) → all_differ (last_names i names) ≡ true → all_differ (last_names (i + 1) names) ≡ true
@@ -50,8 +47,7 @@ and_false true b h = h
 and_false false b h = refl
 
 among : (a b : Bool) → false ≡ not a → (not a && b) ≡ false
-among true b e = refl
-among false b e = cc
+among a b e = rw (← e) refl
 
 -- names that stand twice among the last ones do so among all
 of_all : (k : ℕ) (names : List (Bor (List ℕ))) → all_differ (map (λ n. n.now) (drop k names)) ≡ false → all_differ (map (λ n. n.now) names) ≡ false

@@ -1,4 +1,3 @@
-mod Bools
 pub mod FirstFault
 pub mod LaterNames
 pub mod ItemFacts

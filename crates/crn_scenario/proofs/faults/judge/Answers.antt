@@ -1,5 +1,4 @@
-use Rattle.std.proofs.Common.{◌≡◌, ◌≢◌, ℕ, ◌++◌, Option, Some, None, sym, ◌∙◌, subst}
-use Rattle.std.specs.Prelude.{IfErr, OnOk, alloc_error}
+use Rattle.std.proofs.Common.{◌≡◌, ◌≢◌, ℕ, ◌++◌, Option, Some, None, sym, ◌∙◌, subst, IfErr, OnOk, alloc_error}
 use Rattle.toml.specs.View.{table_view}
 use Rattle.crn_scenario.specs.declared.scenario_fault.ScenarioFault.TheVariants.{Memory}
 use Rattle.crn_scenario.specs.Reading.{faults, scenario_fault_number}

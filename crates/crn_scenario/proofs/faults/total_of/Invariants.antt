@@ -1,5 +1,4 @@
-use Rattle.std.proofs.Common.{◌≡◌, drop, pos, ◌*◌, ◌^◌}
-use Rattle.std.specs.Prelude.{◌+ℤ◌, ◌≤ℤ◌}
+use Rattle.std.proofs.Common.{◌≡◌, drop, pos, ◌*◌, ◌^◌, ◌+ℤ◌, ◌≤ℤ◌}
 use Rattle.toml.specs.View.{items_view}
 use Rattle.crn_scenario.specs.Tree.{integers_of}
 use Rattle.crn_scenario.specs.Reading.{total_of}
