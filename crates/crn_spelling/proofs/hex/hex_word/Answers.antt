@@ -1,5 +1,4 @@
-use Rattle.std.proofs.Common.{refl}
-use Rattle.std.proofs.lemmas.List.{length-set}
+use Rattle.std.proofs.Common.{refl, length-set}
 use Rattle.crn_spelling.specs.Hex.{hex_word}
 use Rattle.crn_spelling.proofs.HexWritten.{turn, last, start}
 use Rattle.crn_spelling.proofs.hex.hex_word.Goals as goal
