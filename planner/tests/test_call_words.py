@@ -156,6 +156,7 @@ REFUSED: list[tuple[str, dict[str, Any], str]] = [
     ("changed", {"costs": 5}, "costs: 5 is no dict"),
     ("changed", {"policies": 5}, "policies: 5 is no list"),
     ("long_run", {"keys": 2.5}, "keys: 2.5 is not a whole number"),
+    ("long_run", {"keys": 1}, "keys=1: the long run takes 2 to 256 keys"),
     ("report", {"orders": 5}, "orders: 5 is no OrdersToday"),
     ("read_catalogue", {"demand": [1, 2]}, "demand: list is no table with headings"),
 ]

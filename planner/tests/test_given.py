@@ -64,15 +64,10 @@ def test_what_is_said_twice() -> None:
 
 def test_a_word_of_both_values() -> None:
     """`fill` is read into both values from one word: that counts as said once, and beside them it is said twice."""
-    of_both: Any = {
-        "reading": crn.Reading(fill=0.9),
-        "settings": crn.Settings(fill=0.9),
-    }
-    assert joined({"seed": 3}, **of_both) == {"seed": 3, "fill": Fraction(9, 10)}
-    with pytest.raises(Refused, match="fill is said by itself and in reading"):
-        joined({"fill": 0.9}, **of_both)
+    both: Any = {"reading": crn.Reading(fill=0.9), "settings": crn.Settings(fill=0.9)}
+    assert joined({"seed": 3}, **both) == {"seed": 3, "fill": Fraction(9, 10)}
     with pytest.raises(Refused, match="fill is said by itself and in settings"):
-        joined({"fill": 0.9}, settings=of_both["settings"])
+        joined({"fill": 0.9}, settings=both["settings"])
 
 
 def test_values_are_judged_and_compared() -> None:

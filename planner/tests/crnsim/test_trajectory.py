@@ -39,6 +39,7 @@ def test_example_of_the_page(program: Path, top: Path) -> None:
     found = trajectories(scenario, 4, program=program)
     for policy, periods in zip(scenario.policies, found, strict=True):
         assert [period[:4] for period in periods] == ON_PAGE[policy.name]
+    assert found.frame.loc[5].to_list() == ["B", 1, *ON_PAGE["B"][1]]
     with pytest.raises(Refused, match="periods=5: the scenario has 1 to 4 periods"):
         trajectories(scenario, 5, program=program)
 

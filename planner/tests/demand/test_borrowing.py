@@ -126,6 +126,9 @@ def test_outside_the_grid(mixed: dict[str, list[int]]) -> None:
     assert (prior.items, prior.outside, prior.whole.items) == (132, 2, 130)
     assert learn([*mixed.values()][:57], least=57).items == 57
     assert prior.whole.units.tolist() == usual.whole.units.tolist()
+    classes = dict.fromkeys([*mixed, "large"], "A")
+    of_class = learn({**mixed, "large": large}, classes, "class").classes
+    assert of_class["A"].items == 130
     law = law_of(prior, large)
     assert reason(law) == "the mean size of a demand is above 101"
     assert borrowed(law).log10_bayes is None and law == fit_demand(large)

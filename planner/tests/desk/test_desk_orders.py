@@ -284,12 +284,6 @@ def test_what_was_typed_is_shown_again(planner: Planner, shown: Shown) -> None:
     assert len(re.findall('<span class="warn small">you typed', sent.text)) == 2
 
 
-def test_all_orders_are_placed(planner: Planner, shown: Shown) -> None:
-    shown.send(shown.forms[-2], "/today/place")
-    placed = {order.item: order.quantity for order in planner.desk.state.placed}
-    assert (placed, Shown(planner).lines) == (shown.lines, {})
-
-
 def test_buttons_of_quantities(planner: Planner, shown: Shown) -> None:
     """Each button is pressed by its text: it keeps the quantities of its own form, or those of the plan again."""
     one, more = "0017", "<b>bold</b>"

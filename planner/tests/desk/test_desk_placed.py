@@ -99,3 +99,4 @@ def test_rows_of_open_orders_are_those_of_one_order_each(
     files = TodayFiles({}, {}, [], {}, {"A": rows}, numbered)
     orders = [Placed(*one[:3], "", *one[3:]) for one in placed]
     assert files.named(orders) == [orders[place] for place in named]
+    assert files.had("A").split() == rows
