@@ -1,6 +1,5 @@
 -- A move that an actor's part allows may be made by the seat that has it.
-use Rattle.std.proofs.Common.{◌≡◌, ℕ, suc, zero, ◌+◌, ◌-◌, ◌≤◌, ◌≢◌, List, [], ◌∷◌, set, Some, inl, inr, refl, sym, ap, ◌∙◌, subst, arith}
-use Rattle.std.specs.Prelude.{slice_get, slice_index}
+use Rattle.std.proofs.Common.{◌≡◌, ℕ, suc, zero, ◌+◌, ◌-◌, ◌≤◌, ◌≢◌, List, [], ◌∷◌, set, Some, inl, inr, refl, sym, ap, ◌∙◌, subst, arith, slice_get, slice_index}
 use lib.ListN.{get_elem?}
 use mathlib.Core.Option.{some, none}
 use Rattle.atomic_table.specs.Table.{State, Allows, step, stepped, keeps}

@@ -1,8 +1,5 @@
 -- The steps of a ring's table are moves of actors that go on.
-use Rattle.std.proofs.Common.{◌≡◌, ℕ, suc, zero, ◌+◌, ◌-◌, ◌/◌, ◌<◌, ◌≤◌, ◌≢◌, ◌⊎◌, Bool, true, false, List, [], ◌∷◌, ◌++◌, set, Some, inl, inr, refl, sym, ap, ◌∙◌, subst, arith}
-use Rattle.std.specs.Prelude.{slice_get, slice_index, ◌==◌, ◌||◌, nat_lt, if◌then◌else◌, length}
-use Rattle.std.specs.List.{flat_map}
-use Rattle.std.proofs.lemmas.Bool.{eq-eqb, ne_eqb}
+use Rattle.std.proofs.Common.{◌≡◌, ℕ, suc, zero, ◌+◌, ◌-◌, ◌/◌, ◌<◌, ◌≤◌, ◌≢◌, ◌⊎◌, Bool, true, false, List, [], ◌∷◌, ◌++◌, set, Some, inl, inr, refl, sym, ap, ◌∙◌, subst, arith, slice_get, slice_index, ◌==◌, ◌||◌, nat_lt, if◌then◌else◌, length, flat_map, eq-eqb, ne_eqb}
 use Rattle.std.proofs.lemmas.Option.{get_or_from_slice_get}
 use Rattle.crn_cipher.specs.declared.TheConstants.{BLOCK_WORDS}
 use Rattle.crn_proto.specs.declared.spec.RingSpec.{RingSpec}
@@ -54,18 +51,15 @@ named_in [] k a v h named = cc
 named_in (x ∷ xs) zero a v h named = let same : x ≡ v = cc in rw same (simp parts_append (omega arith))
 named_in (x ∷ xs) (suc k) a v h named = let more = named_in xs k a v h named in simp parts_append (omega arith)
 
-single_rest : (x : View) (xs : List View) → Single (x ∷ xs) → Single xs
-single_rest x xs few a =
-    let one : parts_named a (parts_of_view x ++ flat_map parts_of_view xs) ≤ 1 = few a in
-    let all = parts_append a (parts_of_view x) (flat_map parts_of_view xs) in
-    omega arith
-
 -- no actor is named in the first view and in another
+few_of_both : (x : View) (xs : List View) (a : ℕ) → Single (x ∷ xs) → parts_named a (parts_of_view x) + parts_named a (flat_map parts_of_view xs) ≤ 1
+few_of_both x xs a few = rw parts_append at (few a)
+
+single_rest : (x : View) (xs : List View) → Single (x ∷ xs) → Single xs
+single_rest x xs few a = let both = few_of_both x xs a few in omega arith
+
 not_both : (x : View) (xs : List View) (a : ℕ) → Single (x ∷ xs) → 1 ≤ parts_named a (parts_of_view x) → 1 ≤ parts_named a (flat_map parts_of_view xs) → ⊥
-not_both x xs a few here there =
-    let one : parts_named a (parts_of_view x ++ flat_map parts_of_view xs) ≤ 1 = few a in
-    let all = parts_append a (parts_of_view x) (flat_map parts_of_view xs) in
-    omega arith
+not_both x xs a few here there = let both = few_of_both x xs a few in omega arith
 
 -- two views that name one actor are of one seat
 one_seat : (views : List View) (j k a : ℕ) (u v : View) → Single views → slice_get views j ≡ Some u → slice_get views k ≡ Some v → 1 ≤ parts_named a (parts_of_view u) → 1 ≤ parts_named a (parts_of_view v) → j ≡ k
@@ -239,14 +233,8 @@ pub record Stands (spec : RingSpec) (b : ℕ) (old : Ring) (w : Watch) (moves : 
 
 stands_from : (spec : RingSpec) (b : ℕ) (steps : List TableStep) (s s' : TableState) (ring : Ring) (w : Watch) → Holds spec s → Shows spec s ring → Watched w s.views → AreInBatches b steps → MakesAll spec s steps s'
     → Stands spec b ring w (moves_of steps) s'
-stands_from spec b [] s s' ring w law shown watched few made = record {
-  ring = ring;
-  watch = w;
-  goes_on = (refl, refl);
-  shown = subst (λ (t : TableState). Shows spec t ring) (sym made) shown;
-  law = subst (Holds spec) (sym made) law;
-  watched = subst (λ (t : TableState). Watched w t.views) (sym made) watched;
-}
+stands_from spec b [] s s' ring w law shown watched few made =
+    rw made (record { ring = ring; watch = w; goes_on = (refl, refl); shown = shown; law = law; watched = watched })
 stands_from spec b (Made o ∷ steps) s s' ring w law shown watched few (mid, p, rest) =
     let (after, move, shown') = step_of_kind spec s mid ring o.kind o.id o.i o.x o.view o.carried law shown p in
     let goes = step_goes_on spec b s mid ring w o.kind o.id o.i o.x o.view o.carried law shown watched few.0 p in
@@ -288,7 +276,6 @@ step_in_batch spec b s s' LoadsWord id i x v carried all law p =
     let own = own_law spec s id v (OfReader v.number v.reader) law p.at (reader_alone v made.seat) in
     let more : v.reader.taken + length v.reader.read / BLOCK_WORDS < v.reader.seen = made.may.1 in
     let seen = (own.here made.may.0).seen_published in
-    let total = law.rule.lawful.of_words.in_total in
     omega arith
 step_in_batch spec b s s' kind id i x v carried all law p = tt
 

@@ -1,7 +1,5 @@
 -- A table that meets the rule while all parts are open has the words of the open ring.
-use Rattle.std.proofs.Common.{◌≡◌, ℕ, zero, suc, ◌+◌, ◌-◌, ◌<◌, Some, refl, arith}
-use Rattle.std.specs.Prelude.{slice_get}
-use Rattle.std.proofs.lemmas.List.{append-nil}
+use Rattle.std.proofs.Common.{◌≡◌, ℕ, zero, suc, ◌+◌, ◌-◌, ◌<◌, Some, refl, arith, slice_get, append-nil}
 use Rattle.crn_proto.specs.declared.actor_parts.Part.{Part}
 use Rattle.crn_proto.specs.declared.actor_parts.Part.TheVariants.{OfProducer, OfReader}
 use Rattle.crn_proto.specs.declared.actor_parts.ProducerPart.{ProducerPart}

@@ -1,7 +1,5 @@
 -- Each step of a ring's table is a move of the ring.
-use Rattle.std.proofs.Common.{◌≡◌, ℕ, suc, zero, ◌+◌, ◌-◌, ◌<◌, ◌≤◌, ◌≢◌, List, [], ◌∷◌, ◌++◌, replicate, set, Some, inl, inr, refl, sym, ap, ◌∙◌, subst, arith, length-set, get_or-set_same}
-use Rattle.std.specs.Prelude.{slice_get, slice_index, slice_set}
-use Rattle.std.specs.List.{flat_map}
+use Rattle.std.proofs.Common.{◌≡◌, ℕ, suc, zero, ◌+◌, ◌-◌, ◌<◌, ◌≤◌, ◌≢◌, List, [], ◌∷◌, ◌++◌, replicate, set, Some, inl, inr, refl, sym, ap, ◌∙◌, subst, arith, length-set, get_or-set_same, slice_get, slice_index, slice_set, flat_map}
 use mathlib.Core.Option.{some, none}
 use lib.ListN.{get_elem?}
 use Rattle.std.proofs.lemmas.List.{append-nil, length-replicate, get_or-replicate}
@@ -30,11 +28,9 @@ get_set_here : {A : Type 0} (xs : List A) (i : ℕ) (x y : A) → slice_get xs i
 get_set_here xs i x y h = let within = slice_get_within xs i x h in slice_get-get_or (set xs i y) i y (omega (arith, length-set xs i y)) ∙ ap Some (get_or-set_same xs i y y within)
 
 get_set_other : {A : Type 0} (xs : List A) (i k : ℕ) (y : A) → k ≢ i → slice_get (set xs i y) k ≡ slice_get xs k
-get_set_other [] i k y ne = refl
 get_set_other (z ∷ zs) zero zero y ne = absurd (ne refl)
-get_set_other (z ∷ zs) zero (suc k) y ne = refl
-get_set_other (z ∷ zs) (suc i) zero y ne = refl
 get_set_other (z ∷ zs) (suc i) (suc k) y ne = get_set_other zs i k y (λ e. ne (ap suc e))
+get_set_other zs i k y ne = refl
 
 -- ---- one part among several
 

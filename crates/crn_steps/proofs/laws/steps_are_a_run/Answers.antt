@@ -3,17 +3,11 @@ use Rattle.crn_steps.proofs.Schedules.{allowed_steps_are_made}
 use Rattle.crn_steps.proofs.Opened.{opens_as_the_open_ring}
 use Rattle.crn_steps.proofs.laws.steps_are_a_run.Goals as goal
 
-pub returns-clause-opens : goal.returns-clause-opens
-returns-clause-opens c = opens_as_the_open_ring
-
-pub returns-clause-allowed : goal.returns-clause-allowed
-returns-clause-allowed c = allowed_steps_are_made
-
-pub returns-clause-run : goal.returns-clause-run
-returns-clause-run c = steps_are_a_run
-
-pub returns-clause-go_on : goal.returns-clause-go_on
-returns-clause-go_on c = steps_go_on
-
-pub returns-clause-bounded : goal.returns-clause-bounded
-returns-clause-bounded c = batches_are_bounded
+pub returns : goal.returns
+returns c = record {
+  opens = opens_as_the_open_ring;
+  allowed = allowed_steps_are_made;
+  run = steps_are_a_run;
+  go_on = steps_go_on;
+  bounded = batches_are_bounded;
+}

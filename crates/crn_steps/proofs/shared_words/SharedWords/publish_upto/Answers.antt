@@ -10,7 +10,6 @@ use Rattle.crn_steps.proofs.shared_words.SharedWords.publish_upto.Goals as goal
 pub store-requires : goal.store-requires
 store-requires c = let at = c.requires.at in let p = producer_in c.args.seat.now in
     let stored : p.stored ≡ BLOCK_WORDS * c.args.count = at.1 in
-    let some = at.2 in
     let upto : c.args.n ≡ p.published + c.args.count = at.3 in
     let whole : p.stored ≡ BLOCK_WORDS * (p.stored / BLOCK_WORDS) = omega arith in
     let value : 2 * c.args.n ≡ 2 * (p.published + p.stored / BLOCK_WORDS) = omega arith in (

@@ -10,7 +10,6 @@ use Rattle.crn_steps.proofs.shared_words.SharedWords.store_taken.Goals as goal
 pub store-requires : goal.store-requires
 store-requires c = let at = c.requires.at in let q = reader_in c.args.seat.now in
     let read : length q.read ≡ BLOCK_WORDS * c.args.count = c.requires.whole.0 in
-    let some = c.requires.whole.1 in
     let upto : c.args.n ≡ q.taken + c.args.count = c.requires.whole.2 in
     let whole : length q.read ≡ BLOCK_WORDS * (length q.read / BLOCK_WORDS) = omega arith in
     let value : c.args.n ≡ q.taken + length q.read / BLOCK_WORDS = omega arith in (
