@@ -23,77 +23,52 @@ pub gathers_more : (xs ys : List ℤ) (i : ℕ) (x y : ℤ) (m m' : Moments)
     → unsigned_abs x ≤ COST_LIMIT → unsigned_abs y ≤ COST_LIMIT
     → Gathers xs ys i m → Gathers xs ys (i + 1) m'
 gathers_more xs ys i x y m m' at_x at_y new_x new_y new_products low_x low_y g =
-    let old_x : m.x +ℤ signed_sum (drop i xs) ≡ signed_sum xs = g.x_left in
-    let old_y : m.y +ℤ signed_sum (drop i ys) ≡ signed_sum ys = g.y_left in
-    let old_p : m.products +ℤ products (drop i xs) (drop i ys) ≡ products xs ys = g.products_left in
     let head_x : signed_sum (drop i xs) ≡ x +ℤ signed_sum (drop (suc i) xs) = ap signed_sum at_x in
     let head_y : signed_sum (drop i ys) ≡ y +ℤ signed_sum (drop (suc i) ys) = ap signed_sum at_y in
     let head_p : products (drop i xs) (drop i ys) ≡ (x *ℤ y) +ℤ products (drop (suc i) xs) (drop (suc i) ys) =
     ap (λ (l : List ℤ). products l (drop i ys)) at_x ∙ ap (λ (l : List ℤ). products (x ∷ drop (suc i) xs) l) at_y in
     let size : unsigned_abs (x *ℤ y) ≡ unsigned_abs x * unsigned_abs y = unsigned_abs-mul x y in
     let low_p : unsigned_abs x * unsigned_abs y ≤ COST_LIMIT * COST_LIMIT = omega (arith, mul-le-mul_left (unsigned_abs x) low_y, low_x) in
-    let w_x : unsigned_abs m.x ≤ i * COST_LIMIT = g.within.x_low in
-    let w_y : unsigned_abs m.y ≤ i * COST_LIMIT = g.within.y_low in
-    let w_p : unsigned_abs m.products ≤ i * (COST_LIMIT * COST_LIMIT) = g.within.products_low in
     let one_on : suc i ≡ i + 1 = omega arith in
     subst (λ (n : ℕ). Gathers xs ys n m') one_on (record {
-      x_left = omega (arith, ints, old_x, head_x, new_x);
-      y_left = omega (arith, ints, old_y, head_y, new_y);
-      products_left = omega (arith, ints, old_p, head_p, new_products);
+      x_left = omega (arith, ints, g.x_left, head_x, new_x);
+      y_left = omega (arith, ints, g.y_left, head_y, new_y);
+      products_left = omega (arith, ints, g.products_left, head_p, new_products);
       within = record {
-        x_low = omega (arith, ints, w_x, low_x, new_x);
-        y_low = omega (arith, ints, w_y, low_y, new_y);
-        products_low = omega (arith, ints, w_p, low_p, size, new_products);
+        x_low = omega (arith, ints, g.within.x_low, low_x, new_x);
+        y_low = omega (arith, ints, g.within.y_low, low_y, new_y);
+        products_low = omega (arith, ints, g.within.products_low, low_p, size, new_products);
       };
     })
 
 pub gathers_all : (xs ys : List ℤ) (n : ℕ) (m : Moments) → drop n xs ≡ [] → drop n ys ≡ [] → Gathers xs ys n m → AreSums xs ys m
 gathers_all xs ys n m end_x end_y g =
-    let left_x : m.x +ℤ signed_sum (drop n xs) ≡ signed_sum xs = g.x_left in
-    let left_y : m.y +ℤ signed_sum (drop n ys) ≡ signed_sum ys = g.y_left in
-    let left_p : m.products +ℤ products (drop n xs) (drop n ys) ≡ products xs ys = g.products_left in
     let none_x = ap signed_sum end_x in
     let none_y = ap signed_sum end_y in
     let none_p = ap (λ (l : List ℤ). products l (drop n ys)) end_x in
     record {
-      x_is = omega (arith, ints, left_x, none_x);
-      y_is = omega (arith, ints, left_y, none_y);
-      products_are = omega (arith, ints, left_p, none_p);
+      x_is = omega (arith, ints, g.x_left, none_x);
+      y_is = omega (arith, ints, g.y_left, none_y);
+      products_are = omega (arith, ints, g.products_left, none_p);
     }
-
--- sums within a lower number of places are within a higher one
-pub within_more : (i n : ℕ) (m : Moments) → i ≤ n → AreWithin i m → AreWithin n m
-within_more i n m few w =
-    let x : unsigned_abs m.x ≤ i * COST_LIMIT = w.x_low in
-    let y : unsigned_abs m.y ≤ i * COST_LIMIT = w.y_low in
-    let p : unsigned_abs m.products ≤ i * (COST_LIMIT * COST_LIMIT) = w.products_low in
-    record { x_low = omega (arith, x, few); y_low = omega (arith, y, few); products_low = omega (arith, p, few) }
 
 -- ---- the lists that are gathered over
 
 pub difference_at : (a b : List ℕ) (i d e : ℕ) → i < length a → length b ≡ length a → drop i (differences a b) ≡ (pos (get_or a i d) -ℤ pos (get_or b i e)) ∷ drop (suc i) (differences a b)
-difference_at [] b i d e inside same = absurd (omega arith)
-difference_at (x ∷ a) [] i d e inside same = absurd (omega arith)
 difference_at (x ∷ a) (y ∷ b) zero d e inside same = refl
 difference_at (x ∷ a) (y ∷ b) (suc i) d e inside same = difference_at a b i d e (omega arith) (omega (arith, same))
+difference_at a b i d e inside same = absurd (omega arith)
 
 pub no_difference_past : (a b : List ℕ) (i : ℕ) → length a ≤ i → drop i (differences a b) ≡ []
 no_difference_past [] b zero past = refl
-no_difference_past [] b (suc i) past = refl
 no_difference_past (x ∷ a) b zero past = absurd (omega arith)
-no_difference_past (x ∷ a) [] (suc i) past = refl
 no_difference_past (x ∷ a) (y ∷ b) (suc i) past = no_difference_past a b i (omega arith)
+no_difference_past a b i past = refl
 
 pub signed_at : (a : List ℕ) (i d : ℕ) → i < length a → drop i (signed a) ≡ pos (get_or a i d) ∷ drop (suc i) (signed a)
 signed_at [] i d inside = absurd (omega arith)
 signed_at (x ∷ a) zero d inside = refl
 signed_at (x ∷ a) (suc i) d inside = signed_at a i d (omega arith)
-
-pub no_signed_past : (a : List ℕ) (i : ℕ) → length a ≤ i → drop i (signed a) ≡ []
-no_signed_past [] zero past = refl
-no_signed_past [] (suc i) past = refl
-no_signed_past (x ∷ a) zero past = absurd (omega arith)
-no_signed_past (x ∷ a) (suc i) past = no_signed_past a i (omega arith)
 
 pub cost_at : (a : List ℕ) (i d : ℕ) → are_costs a ≡ true → i < length a → get_or a i d ≤ COST_LIMIT
 cost_at [] i d all inside = absurd (omega arith)
@@ -102,14 +77,7 @@ cost_at (x ∷ a) (suc i) d all inside = cost_at a i d (and_parts (nat_le x COST
 
 -- from sums over places to the sum over pairs of places
 pub spread_is : (xs ys : List ℤ) (m : Moments) → length ys ≡ length xs → AreSums xs ys m → pos (length xs) *ℤ m.products -ℤ m.x *ℤ m.y ≡ over_pairs xs ys
-spread_is xs ys m same sums =
-    let x : m.x ≡ signed_sum xs = sums.x_is in
-    let y : m.y ≡ signed_sum ys = sums.y_is in
-    let p : m.products ≡ products xs ys = sums.products_are in
-    ap (λ (z : ℤ). pos (length xs) *ℤ z -ℤ m.x *ℤ m.y) p
-    ∙ ap (λ (z : ℤ). pos (length xs) *ℤ products xs ys -ℤ z *ℤ m.y) x
-    ∙ ap (λ (z : ℤ). pos (length xs) *ℤ products xs ys -ℤ signed_sum xs *ℤ z) y
-    ∙ sym (pairs_are xs ys same)
+spread_is xs ys m same sums = rw (sums.products_are, sums.x_is, sums.y_is) (sym (pairs_are xs ys same))
 
 pub length-differences : (a b : List ℕ) → length b ≡ length a → length (differences a b) ≡ length a
 length-differences [] b e = refl

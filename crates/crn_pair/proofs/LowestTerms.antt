@@ -2,7 +2,7 @@
 use Rattle.std.proofs.Common.{◌≡◌, ℕ, zero, suc, ◌*◌, ◌/◌, ◌%◌, ◌<◌, ◌≤◌, ℤ, pos, negsuc, neg_ℤ, ◌*ℤ◌, unsigned_abs, int_div, int_rem, arith, refl, sym, ap, subst, ◌∙◌}
 use Rattle.std.proofs.lemmas.Int.{ints, quot-rem, unsigned_abs-mul}
 use Rattle.std.proofs.lemmas.Nat.Gcd.{dvd_antisymm, mod-eq-zero_of_dvd}
-use Rattle.std.proofs.Math.Nat.{mul-dvd-mul_right, dvd_of_mul-dvd-mul_right, one-dvd}
+use Rattle.std.proofs.Math.Nat.{div-mul_cancel, mul-dvd-mul_right, dvd_of_mul-dvd-mul_right, one-dvd}
 use Rattle.std.specs.Int.{IsGcd}
 use Rattle.crn_pair.specs.LowestTerms.{AreInLowestTerms}
 use Prim.Native.Nat.{◌∣◌}
@@ -15,9 +15,6 @@ pub exact : (z : ℤ) (d : ℕ) → d ∣ unsigned_abs z → int_div z (pos d) *
 exact z d h =
     let none : int_rem z (pos d) ≡ pos 0 = rem_none z d (mod-eq-zero_of_dvd d h) in
     omega (arith, ints, quot-rem z (pos d), none)
-
-pub exact_word : (n d : ℕ) → d ∣ n → n / d * d ≡ n
-exact_word n d h = omega (arith, mod-eq-zero_of_dvd d h)
 
 neg-mul : (m r : ℕ) → neg_ℤ (pos m) *ℤ pos r ≡ neg_ℤ (pos (m * r))
 neg-mul zero r = omega (arith, ints)
@@ -34,7 +31,7 @@ positive zero g den e some = absurd (omega arith)
 positive (suc r) g den e some = omega arith
 
 pub positive_divisor : (n d : ℕ) → d ∣ n → 1 ≤ n → 1 ≤ d
-positive_divisor n d h some = positive d (n / d) n (omega (arith, exact_word n d h)) some
+positive_divisor n d h some = positive d (n / d) n (omega (arith, div-mul_cancel d h)) some
 
 -- the terms num and den over their greatest common divisor g are q and r
 module _ (num q : ℤ) (den r g : ℕ) (of_num : q *ℤ pos g ≡ num) (of_den : r * g ≡ den) (some : 1 ≤ den) where

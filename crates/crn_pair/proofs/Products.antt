@@ -31,8 +31,6 @@ one_more n z = suc_ℤ-*ℤ (pos n) z
 pub against_is : (x y : ℤ) (xs ys : List ℤ) → length ys ≡ length xs
     → against x y xs ys ≡ pos (length xs) *ℤ (x *ℤ y) -ℤ x *ℤ signed_sum ys -ℤ y *ℤ signed_sum xs +ℤ products xs ys
 against_is x y [] [] e = omega (arith, ints)
-against_is x y [] (v ∷ ys) e = absurd (omega arith)
-against_is x y (u ∷ xs) [] e = absurd (omega arith)
 against_is x y (u ∷ xs) (v ∷ ys) e =
     let h = against_is x y xs ys (omega (arith, e)) in
     let n = one_more (length xs) (x *ℤ y) in
@@ -43,11 +41,10 @@ against_is x y (u ∷ xs) (v ∷ ys) e =
     let f = difference_right u y v in
     let g = *ℤ_comm u y in
     omega (arith, ints, h, n, a, b, c, d, f, g)
+against_is x y xs ys e = absurd (omega arith)
 
 pub pairs_are : (xs ys : List ℤ) → length ys ≡ length xs → over_pairs xs ys ≡ pos (length xs) *ℤ products xs ys -ℤ signed_sum xs *ℤ signed_sum ys
 pairs_are [] [] e = omega (arith, ints)
-pairs_are [] (y ∷ ys) e = absurd (omega arith)
-pairs_are (x ∷ xs) [] e = absurd (omega arith)
 pairs_are (x ∷ xs) (y ∷ ys) e =
     let same : length ys ≡ length xs = omega (arith, e) in
     let h = against_is x y xs ys same in
@@ -59,3 +56,4 @@ pairs_are (x ∷ xs) (y ∷ ys) e =
     let c = sum_right (signed_sum xs) y (signed_sum ys) in
     let d = *ℤ_comm (signed_sum xs) y in
     omega (arith, ints, h, k, n, m, a, b, c, d)
+pairs_are xs ys e = absurd (omega arith)

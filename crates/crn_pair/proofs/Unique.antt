@@ -1,5 +1,5 @@
 -- A quotient has just one fraction in lowest terms.
-use Rattle.std.proofs.Common.{◌≡◌, ℕ, zero, suc, ◌+◌, ◌*◌, ◌/◌, ◌%◌, ◌<◌, ◌≤◌, ℤ, pos, ◌*ℤ◌, unsigned_abs, arith, refl, sym, ap, subst, ◌∙◌}
+use Rattle.std.proofs.Common.{mul-div_cancel, ◌≡◌, ℕ, zero, suc, ◌+◌, ◌*◌, ◌/◌, ◌%◌, ◌<◌, ◌≤◌, ℤ, pos, ◌*ℤ◌, unsigned_abs, arith, refl, sym, ap, subst, ◌∙◌}
 use Rattle.std.proofs.lemmas.Int.{ints, unsigned_abs-mul}
 use Rattle.std.proofs.lemmas.Nat.Gcd.{IsGcd-from_zero, IsGcd-from_mod, same_from_IsGcd}
 use Rattle.std.proofs.Math.Nat.{div-add-mod, mul-le-mul_left, mod-lt, mod-eq_of_lt, add-mul-mod_self_right}
@@ -10,10 +10,7 @@ use Rattle.crn_pair.specs.declared.fraction.Fraction.{Fraction}
 use borrow.Author.Differences.{up, down}
 
 cancel : (m n k : ℕ) → 1 ≤ k → m * k ≡ n * k → m ≡ n
-cancel zero zero k some e = refl
-cancel zero (suc n) k some e = absurd (omega (arith, e, some))
-cancel (suc m) zero k some e = absurd (omega (arith, e, some))
-cancel (suc m) (suc n) k some e = ap suc (cancel m n k some (omega (arith, e)))
+cancel m n k some e = sym (mul-div_cancel m {n = k} (omega arith)) ∙ ap (λ (x : ℕ). x / k) e ∙ mul-div_cancel n {n = k} (omega arith)
 
 mod_div : (a b : ℕ) → a ≡ a % b + a / b * b
 mod_div a b = omega (arith, div-add-mod a b)

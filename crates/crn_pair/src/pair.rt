@@ -185,6 +185,7 @@ impl Moments {
     }
 
     // Returns the sums with one more place.
+    #[tactic(auto, using(crate::proofs::Stripped::sum_is))]
     fn with(self, x: i128, y: i128) -> Moments
         requires x { unsigned_abs x ≤ COST_LIMIT }
         requires y { unsigned_abs y ≤ COST_LIMIT }
