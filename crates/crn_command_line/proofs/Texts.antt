@@ -1,5 +1,5 @@
 -- Texts of arguments that are no numbers and no keys.
-use Rattle.std.proofs.Common.{◌≡◌, ◌<◌, ◌^◌, ℕ, zero, suc, List, [], ◌∷◌, Option, Some, None, map, decimal, slice_get, IfNone, ap, subst, sym, ◌∙◌, arith}
+use Rattle.std.proofs.Common.{◌≡◌, ◌<◌, ◌^◌, ℕ, suc, List, [], ◌∷◌, Option, Some, None, map, decimal, slice_get, IfNone, ap, subst, sym, ◌∙◌, arith}
 use Rattle.std.proofs.lemmas.Fmt.{decimal_injective}
 use Rattle.crn_command_line.specs.CommandLine.{IsNumber}
 
@@ -15,9 +15,8 @@ too_large text m fits spelt n is =
     omega (arith, same, small)
 
 never_none : (key : List ℕ) (i : ℕ) → slice_get (map Some key) i ≡ Some None → ⊥
-never_none [] i e = cc
-never_none (word ∷ key) zero e = cc
 never_none (word ∷ key) (suc i) e = never_none key i e
+never_none key i e = cc
 
 -- words of which one is misspelt are no key
 pub misspelt : (words : List (Option ℕ)) (i : ℕ) → slice_get words i ≡ Some None → (key : List ℕ) → words ≡ map Some key → ⊥

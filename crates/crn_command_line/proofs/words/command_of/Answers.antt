@@ -1,5 +1,4 @@
-use Rattle.std.proofs.Common.{IfErr, List, Option, subst, sym}
-use Rattle.std.specs.Box.{box_value}
+use Rattle.std.proofs.Common.{IfErr, List, Option, subst, sym, box_value}
 use Rattle.clap.specs.Words.{Row, Text, found_of, rows_of}
 use Rattle.clap.specs.declared.parser.matches.ArgMatches.TheViews.{out-ArgMatches, out-SubCommand}
 use Rattle.crn_command_line.specs.Parsing.{RefusesFound}
