@@ -1,9 +1,7 @@
 -- States as lanes, and lanes as states.
-use Rattle.std.proofs.Common.{◌≡◌, ℕ, ◌+◌, ◌*◌, ◌/◌, ◌%◌, ◌<◌, ◌≤◌, ℤ, Bool, List, length, length-append, length-drop, sum, drop, take, refl, sym, ap, subst, ◌∙◌, arith, mod-lt, inl, inr}
+use Rattle.std.proofs.Common.{◌≡◌, ℕ, ◌+◌, ◌*◌, ◌/◌, ◌%◌, ◌<◌, ◌≤◌, ℤ, Bool, List, length, length-append, length-drop, sum, drop, take, refl, sym, ap, subst, ◌∙◌, arith, length-take}
 use Rattle.std.proofs.lemmas.Int.{ints}
-use Rattle.std.proofs.lemmas.Nat.{div-add-mod', mul-le}
-use Rattle.std.proofs.lemmas.Bool.{cases_lt}
-use Rattle.std.proofs.lemmas.List.{length-take}
+use Rattle.std.proofs.lemmas.Nat.{div-mul-add, mod-mul-add}
 use Rattle.crn_cipher.specs.declared.TheConstants.{STREAM_WORDS}
 use Rattle.crn_stock.specs.Parts.{Parts, AreInRange, CanRestore, restored, rotated, first_period}
 use Rattle.crn_stock.specs.Models.{ModelParts, ScenarioParts, blocks_per_replication, total}
@@ -19,18 +17,7 @@ use Rattle.crn_lanes.specs.Inner.Groups.{with_costs, lane, IsGroup, IsInLimits, 
 
 -- a quotient and a remainder are the only ones
 divided : (n b q r : ℕ) → r < b → n ≡ q * b + r → (n / b ≡ q) × (n % b ≡ r)
-divided n b q r lt is =
-    let small : n % b < b = mod-lt n (omega (arith, lt)) in
-    let split = div-add-mod' n b in
-    elim (cases_lt q (n / b)) [
-      | inl less ↦ absurd (omega (arith, lt, is, split, mul-le (q + 1) b (n / b) b (omega (arith, less)) (omega arith)))
-      | inr more ↦ elim (cases_lt (n / b) q) [
-        | inl less ↦ absurd (omega (arith, small, is, split, mul-le (n / b + 1) b q b (omega (arith, less)) (omega arith)))
-        | inr less ↦
-            let same : n / b ≡ q = omega (arith, less, more) in
-            (same, omega (arith, is, split, ap (λ (x : ℕ). x * b) same))
-      ]
-    ]
+divided n b q r lt is = (rw is (div-mul-add q b r lt), rw is (mod-mul-add q b r lt))
 
 -- where a state stands before block n
 pub place_of : (m : ModelParts) (n : ℕ) (v : Parts) → StandsBefore m n v → v.period < v.periods → (v.period ≡ first_period m n) × (length v.costs ≡ n / blocks_per_replication m.periods)
@@ -63,17 +50,8 @@ loaded_lane b t x k v limits at has is =
 
 -- and it has the state's parts
 pub loaded_is : (m : ModelParts) (t : ℕ) (x : Lanes) (k : ℕ) (costs : List ℕ) (v : Parts) → IsOf m v → v.period ≡ t → costs ≡ v.costs → IsLoaded (t % 32) x k v → with_lane (with_costs m costs) t x k ≡ v
-loaded_is m t x k costs v of at same is = λ i. record {
-  periods = sym of.periods_are i;
-  replications = sym of.replications_are i;
-  initial = sym of.initial_is i;
-  has_returns = sym of.has_returns_is i;
-  costs = same i;
-  period = sym at i;
-  stock = is.stock_is i;
-  due = is.due_is i;
-  running = is.running_is i;
-}
+loaded_is m t x k costs v of at same is =
+    rw (is.due_is, is.stock_is, is.running_is, same, ← of.periods_are, ← of.replications_are, ← of.initial_is, ← of.has_returns_is, ← at) refl
 
 -- a group's lane stands before its next block
 pub lane_stands : (m : ModelParts) (g : Group) (k n : ℕ) → IsGroup m g → next_block (lane m g k) ≡ n → StandsBefore m n (lane m g k)
@@ -110,25 +88,12 @@ lane_restores m g k n group lt next below =
       ranges = subst AreInRange same range;
     }
 
-pub lane_is_restored : (m : ModelParts) (g : Group) (k n : ℕ) → IsGroup m g → next_block (lane m g k) ≡ n → restored m n (lane m g k).stock (lane m g k).due (lane m g k).running (lane m g k).costs ≡ lane m g k
-lane_is_restored m g k n group next =
-    let place = place_of m n (lane m g k) (lane_stands m g k n group next) group.period_high in
-    λ j. record (lane m g k) { period = sym place.0 j }
-
 -- the same of equal amounts
 pub restores_as : (m : ModelParts) (n : ℕ) (v : Parts) (stock : ℤ) (due : List ℕ) (running : ℕ) (costs : List ℕ) → stock ≡ v.stock → due ≡ v.due → running ≡ v.running → costs ≡ v.costs
     → CanRestore m n v.stock v.due v.running v.costs → CanRestore m n stock due running costs
-restores_as m n v stock due running costs es ed er ec can =
-    subst (λ (x : ℤ). CanRestore m n x due running costs) (sym es)
-    (subst (λ (x : List ℕ). CanRestore m n v.stock x running costs) (sym ed)
-    (subst (λ (x : ℕ). CanRestore m n v.stock v.due x costs) (sym er)
-    (subst (λ (x : List ℕ). CanRestore m n v.stock v.due v.running x) (sym ec) can)))
+restores_as m n v stock due running costs es ed er ec can = rw (es, ed, er, ec) can
 
 -- what is run of parts that equal a scenario's is run of the scenario
 pub as_run : (s : ScenarioParts) (start : List Parts) (upto : ℕ) (m : ModelParts) (key : List ℕ) (ps : List Policy) (from after : List Parts)
     → m ≡ s.model → key ≡ s.key → ps ≡ s.policies → from ≡ start → AreRun m key ps from upto after → AreRun s.model s.key s.policies start upto after
-as_run s start upto m key ps from after em ek ep ef run =
-    subst (λ (x : List Parts). AreRun s.model s.key s.policies x upto after) ef
-    (subst (λ (x : List Policy). AreRun s.model s.key x from upto after) ep
-    (subst (λ (x : List ℕ). AreRun s.model x ps from upto after) ek
-    (subst (λ (x : ModelParts). AreRun x key ps from upto after) em run)))
+as_run s start upto m key ps from after em ek ep ef run = rw (← ef, ← ep, ← ek, ← em) run

@@ -1,5 +1,5 @@
 -- Rows that are filled one number after another, and columns of rows.
-use Rattle.std.proofs.Common.{◌≡◌, ℕ, zero, suc, ◌+◌, ◌<◌, ◌≤◌, List, [], ◌∷◌, ◌++◌, take, length, slice_index, slice_index_or, slice_set, replicate, sum, get_or-set_same, get_or-set_other, refl, sym, ap, subst, ◌∙◌, arith, inl, inr}
+use Rattle.std.proofs.Common.{◌≡◌, ℕ, suc, ◌+◌, ◌<◌, ◌≤◌, List, [], ◌∷◌, ◌++◌, take, length, slice_index, slice_index_or, slice_set, replicate, sum, get_or-set_same, get_or-set_other, refl, sym, ap, subst, ◌∙◌, arith, inl, inr}
 use Rattle.std.proofs.lemmas.Bool.{cases_eq}
 use Rattle.std.proofs.Math.ListN.{length-set}
 use Rattle.std.proofs.lemmas.List.{map-set, map-append, get_or-map, length-map}
@@ -44,9 +44,8 @@ column_turned due i q k z cleared row len lt none is =
     column_set base q k row ∙ (λ j. slice_set (first j) q (here j)) ∙ ap (λ (l : List ℕ). slice_set (slice_set (column due k) i 0) q (slice_index l q + z)) first
 
 zeros : (n k : ℕ) → slice_index (replicate n 0) k ≡ 0
-zeros zero k = refl
-zeros (suc n) zero = refl
 zeros (suc n) (suc k) = zeros n k
+zeros n k = refl
 
 pub no_amounts : (k : ℕ) → slice_index (replicate 16 0) k ≡ 0
 no_amounts k = zeros 16 k

@@ -1,5 +1,5 @@
 -- Periods of lanes one after another, and the blocks that they make up.
-use Rattle.std.proofs.Common.{◌≡◌, ℕ, suc, ◌+◌, ◌-◌, ◌<◌, ◌≤◌, ℤ, pos, ◌≤ℤ◌, min, sum, Bool, false, List, [], ◌∷◌, ◌++◌, length, sym, ap, subst, ◌∙◌, arith, inl, inr}
+use Rattle.std.proofs.Common.{◌≡◌, ℕ, suc, ◌+◌, ◌-◌, ◌<◌, ◌≤◌, ℤ, pos, ◌≤ℤ◌, min, sum, Bool, false, [], ◌∷◌, ◌++◌, length, sym, ap, subst, ◌∙◌, arith, inl, inr, refl}
 use Rattle.std.proofs.lemmas.Int.{ints}
 use Rattle.std.proofs.lemmas.Bool.{cases_eq}
 use Rattle.crn_stock.specs.Parts.{Parts}
@@ -46,17 +46,7 @@ module _ (l : Levels) (c : Costs) (f : ℕ → Draw) (b : Bool) (t : ℕ) (x : L
 -- fresh lanes are those after a replication's last period
 pub fresh_is : (v w : Parts) (x : Lanes) (k : ℕ) → v.periods ≡ w.periods → v.replications ≡ w.replications → v.initial ≡ w.initial → v.has_returns ≡ w.has_returns
     → v.costs ≡ w.costs ++ w.running ∷ [] → IsFresh w.initial x k → with_lane v 0 x k ≡ after_last_period w
-fresh_is v w x k ep er ei eh ec fresh = λ i. record {
-  periods = ep i;
-  replications = er i;
-  initial = ei i;
-  has_returns = eh i;
-  costs = ec i;
-  period = 0;
-  stock = fresh.stock_is i;
-  due = (ap (λ (l : List ℕ). l ++ []) fresh.due_is) i;
-  running = fresh.running_is i;
-}
+fresh_is v w x k ep er ei eh ec fresh = rw (ep, er, ei, eh, ec, fresh.stock_is, fresh.due_is, fresh.running_is) refl
 
 -- the periods of a block have taken a state by the block, where w is what they have made of it, and the replication's end is seen to
 pub taken_by : (m : ModelParts) (p : Terms) (block : Block) (n : ℕ) (old w new : Parts) → CanTake m block old → length old.due ≡ 32 → 0 < n → n ≤ 4 → old.period + n ≤ old.periods

@@ -27,6 +27,7 @@ pub(crate) const STOCK_LIMIT: u32 = 2 * BIAS + LEVEL_LIMIT as u32;
 /// # Asks
 ///
 /// No lane's `low` is above its `high`. All amounts have the same bias.
+#[tactic(auto, using(crate::proofs::Rows::row_begun, crate::proofs::Rows::row_more))]
 #[inline(always)]
 pub(crate) fn orders_of(
     low: &[u32; LANES],
@@ -57,6 +58,7 @@ fn order_for(low: u32, high: u32, position: u32) -> u32
 /// # Asks
 ///
 /// Each sum is below 2^32.
+#[tactic(auto, using(crate::proofs::Rows::row_begun, crate::proofs::Rows::row_more))]
 #[inline(always)]
 pub(crate) fn sums_of(amounts: &[u32; LANES], others: &[u32; LANES]) -> [u32; LANES]
     requires { (k : ℕ) → k < LANES → slice_index amounts.now k + slice_index others.now k < 2 ^ 32 }
@@ -74,6 +76,7 @@ pub(crate) fn sums_of(amounts: &[u32; LANES], others: &[u32; LANES]) -> [u32; LA
 /// # Asks
 ///
 /// Each amount stays below 2^32, and goes down by no more than there is.
+#[tactic(auto, using(crate::proofs::Rows::row_begun, crate::proofs::Rows::row_more))]
 #[inline(always)]
 pub(crate) fn changed(
     amounts: &[u32; LANES],
@@ -97,6 +100,7 @@ pub(crate) fn changed(
 /// # Asks
 ///
 /// The rates are within their ranges, and each order and stock is. No cost is so high that it could overflow.
+#[tactic(auto, using(crate::proofs::Rows::row_begun, crate::proofs::Rows::row_more))]
 #[inline(always)]
 pub(crate) fn costs_after(
     costs: &Costs,

@@ -56,6 +56,7 @@ pub(crate) fn group_of(
 /// # Asks
 ///
 /// There is a policy, and all levels are within their range.
+#[tactic(auto, using(crate::proofs::Rows::row_begun))]
 pub(crate) fn levels_of(policies: &[Policy]) -> Levels
     requires some { 0 < length policies.now }
     requires ranges { All IsPolicy policies.now }
@@ -134,6 +135,7 @@ fn due_of(states: &[State], place: usize) -> [[u32; LANES]; DUE_PERIODS]
 }
 
 // Returns what arrives in each lane j periods after the next one.
+#[tactic(auto, using(crate::proofs::Rows::row_begun))]
 fn due_row(states: &[State], j: usize) -> [u32; LANES]
     requires some { 0 < length states.now }
     requires limits { AreInLimits states.now }
@@ -169,6 +171,7 @@ fn costs_of(
 }
 
 // Returns the cost of replication r in each lane.
+#[tactic(auto, using(crate::proofs::Rows::row_begun))]
 fn cost_row(states: &[State], r: usize) -> [u64; LANES]
     requires some { 0 < length states.now }
     requires done { (i : ℕ) (v : Parts) → slice_get states.now i ≡ Some v → r < length v.costs }

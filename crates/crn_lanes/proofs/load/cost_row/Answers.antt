@@ -1,11 +1,8 @@
-use Rattle.std.proofs.Common.{ℕ, List, slice_index, refl, ap, ◌∙◌}
+use Rattle.std.proofs.Common.{ℕ, List, slice_index, ap, ◌∙◌}
 use Rattle.crn_stock.specs.Parts.{Parts}
-use Rattle.crn_lanes.proofs.Rows.{row_begun, row_more}
+use Rattle.crn_lanes.proofs.Rows.{row_more}
 use Rattle.crn_lanes.proofs.Seats.{seat_is}
 use Rattle.crn_lanes.proofs.load.cost_row.Goals as goal
-
-pub loop-k-init : goal.loop-k-init
-loop-k-init c = row_begun _ _ refl
 
 pub loop-k-preserved : goal.loop-k-preserved
 loop-k-preserved c =

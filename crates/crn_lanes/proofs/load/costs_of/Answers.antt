@@ -1,5 +1,4 @@
-use Rattle.std.proofs.Common.{◌≡◌, ◌+◌, ◌<◌, ◌++◌, ◌∷◌, [], ℕ, suc, List, length, length-append, take, sym, ap, ◌∙◌, arith}
-use Rattle.std.proofs.lemmas.List.{take_all}
+use Rattle.std.proofs.Common.{◌≡◌, ◌+◌, ◌<◌, ◌++◌, ◌∷◌, [], ℕ, suc, List, length, length-append, take, sym, ap, ◌∙◌, arith, take_all}
 use Rattle.std.proofs.Math.Seq.{take-suc}
 use Rattle.crn_lanes.specs.Inner.Lanes.{column}
 use Rattle.crn_lanes.specs.Inner.Groups.{seat}

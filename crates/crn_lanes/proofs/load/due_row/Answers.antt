@@ -1,7 +1,7 @@
 use Rattle.std.proofs.Common.{slice_index, refl, ap, ◌∙◌, arith}
 use Rattle.std.proofs.lemmas.Option.{slice_get_read}
 use Rattle.crn_stock.specs.Parts.{Parts}
-use Rattle.crn_lanes.proofs.Rows.{row_begun, row_more}
+use Rattle.crn_lanes.proofs.Rows.{row_more}
 use Rattle.crn_lanes.proofs.Seats.{seat_is, due_fits}
 use Rattle.crn_lanes.proofs.load.due_row.Goals as goal
 
@@ -10,9 +10,6 @@ overflow_cast-row c =
     let v = c.index-states-seat_of.result in
     let limits = c.requires.limits c.seat_of.result v (slice_get_read c.args.states.now _ c.seat_of.result v refl c.seat_of.ensures.within c.index-states-seat_of.is) in
     omega (arith, c.due.ensures, due_fits v c.args.j limits c.requires.j)
-
-pub loop-k-init : goal.loop-k-init
-loop-k-init c = row_begun _ _ refl
 
 pub loop-k-preserved : goal.loop-k-preserved
 loop-k-preserved c =

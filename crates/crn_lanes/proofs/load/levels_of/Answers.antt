@@ -1,13 +1,10 @@
-use Rattle.std.proofs.Common.{rules, ◌≡◌, slice_index, refl, ap, ◌∙◌, arith, w64}
+use Rattle.std.proofs.Common.{rules, ◌≡◌, slice_index, ap, ◌∙◌, arith, w64}
 use Rattle.std.proofs.lemmas.Int.{to_z-of_z}
 use Rattle.crn_stock.specs.declared.policy.Policy.{Policy}
 use Rattle.crn_lanes.specs.Inner.Lanes.{unbiased}
-use Rattle.crn_lanes.proofs.Rows.{row_begun, row_more}
+use Rattle.crn_lanes.proofs.Rows.{row_more}
 use Rattle.crn_lanes.proofs.Seats.{seat_is, seat_read, policy_read, level_low, level_order}
 use Rattle.crn_lanes.proofs.load.levels_of.Goals as goal
-
-pub loop-k-init : goal.loop-k-init
-loop-k-init c = row_begun _ _ refl
 
 pub loop-k-preserved : goal.loop-k-preserved
 loop-k-preserved c =
@@ -18,9 +15,6 @@ loop-k-preserved c =
     row_more _ c.loop-k.k c.loop-k.low c.biased.result c.loop-k-test.true
     (λ q e. is ∙ ap (λ (a : Policy). a.low) (seat_is ps c.loop-k.k c.seat_of.result p q c.seat_of.ensures.seat c.seat_of.ensures.within c.index-policies-seat_of.is e), level_low c.biased.result p in_range is)
     c.loop-k.invariant
-
-pub loop-j-init : goal.loop-j-init
-loop-j-init c = row_begun _ _ refl
 
 pub loop-j-preserved : goal.loop-j-preserved
 loop-j-preserved c =

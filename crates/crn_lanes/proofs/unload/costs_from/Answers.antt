@@ -1,5 +1,4 @@
-use Rattle.std.proofs.Common.{◌++◌, ◌∷◌, [], List, ℕ, slice_index, slice_index_or, sym, ap, ◌∙◌}
-use Rattle.std.proofs.lemmas.List.{take_all}
+use Rattle.std.proofs.Common.{◌++◌, ◌∷◌, [], List, ℕ, slice_index, slice_index_or, sym, ap, ◌∙◌, take_all}
 use Rattle.crn_lanes.specs.Inner.Lanes.{column}
 use Rattle.crn_lanes.proofs.Rows.{column_taken}
 use Rattle.crn_lanes.proofs.unload.costs_from.Goals as goal
