@@ -1,6 +1,5 @@
 -- Amounts due, from their rows.
-use Rattle.std.proofs.Common.{◌≡◌, ℕ, zero, suc, ◌+◌, ◌<◌, ◌≤◌, ◌^◌, ◌-◌, min, List, [], ◌∷◌, length, get_or, drop, take, set, All, ◌++◌, decimal, ap, sym, ◌∙◌, arith}
-use Rattle.std.proofs.Common.{drop-cons, length-drop}
+use Rattle.std.proofs.Common.{◌≡◌, ℕ, zero, suc, ◌+◌, ◌<◌, ◌≤◌, ◌^◌, ◌-◌, min, List, [], ◌∷◌, length, get_or, drop, take, set, All, ◌++◌, decimal, ap, sym, ◌∙◌, arith, drop-cons, length-drop}
 use Rattle.std.proofs.lemmas.List.{take_more, take_more_set}
 use Rattle.crn_checkpoint.specs.CheckpointText.{due_rows}
 use Rattle.crn_checkpoint.specs.Inner.Cells.{cell}

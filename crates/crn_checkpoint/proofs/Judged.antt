@@ -1,6 +1,5 @@
 -- What a refusal says of a text.
-use Rattle.std.proofs.Common.{◌≡◌, ◌∙◌, ℕ, List, Ok, Err, Result, IfOk, IfErr, MatchResult, sym, subst, inl, inr}
-use Rattle.std.specs.Prelude.{◌⊎◌, IsErr, IsErrAnd, alloc_error}
+use Rattle.std.proofs.Common.{◌≡◌, ◌∙◌, ℕ, List, Ok, Err, Result, IfOk, IfErr, MatchResult, sym, subst, inl, inr, ◌⊎◌, IsErr, IsErrAnd, alloc_error}
 use Rattle.crn_stock.specs.Parts.{Parts}
 use Rattle.crn_stock.specs.Models.{ScenarioParts}
 use Rattle.crn_checkpoint.specs.declared.version.Version.{Version}

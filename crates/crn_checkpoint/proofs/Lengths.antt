@@ -1,13 +1,13 @@
 -- How many rows of a kind there can be, and how large their numbers.
 use Rattle.std.proofs.Common.{◌<◌, None, sum, ◌≡◌, ℕ, zero, suc, ◌+◌, ◌≤◌, ◌∙◌, true, List, [], ◌∷◌, All, length, arith, nat_le}
-use Rattle.std.proofs.lemmas.Bool.{and_parts}
+use Rattle.std.proofs.lemmas.Bool.{and_parts, leb-true}
 use Rattle.std.proofs.lemmas.Bool.Decides.{nat_tests}
 use Rattle.std.proofs.lemmas.List.Elements.{All-head, All-tail, All-cons, All-nil, All-weaker}
 use Rattle.std.proofs.lemmas.List.Sums.{sum_by-cons}
 use Rattle.std.proofs.lemmas.Nat.{mul-le}
 use Rattle.crn_draw.specs.Faults.{least_weights_fault, rises}
 use Rattle.crn_stock.specs.Models.{ModelParts, IsModel, blocks_per_replication, total}
-use Rattle.crn_draw.proofs.Rising.{rises_from, rises_zero, le-from}
+use Rattle.crn_draw.proofs.Rising.{rises_from, rises_zero}
 use Rattle.crn_checkpoint.specs.CheckpointText.{due_rows}
 
 length_from : (least : ℕ) (xs : List ℕ) (n : ℕ) → rises_from least xs ≡ true → All (λ x. x ≤ n) xs → least ≤ n + 1 → length xs + least ≤ n + 1
@@ -15,7 +15,7 @@ length_from least [] n up high low = omega arith
 length_from least (x ∷ xs) n up high low =
     let parts = and_parts (nat_le least x) (rises_from (x + 1) xs) up in
     let here : x ≤ n = All-head (λ y. y ≤ n) x xs high in
-    omega (arith, le-from least x parts.0, length_from (x + 1) xs n parts.1 (All-tail (λ y. y ≤ n) x xs high) (omega arith))
+    omega (arith, leb-true least x parts.0, length_from (x + 1) xs n parts.1 (All-tail (λ y. y ≤ n) x xs high) (omega arith))
 
 -- numbers that rise strictly are no more than there are numbers up to the last
 pub length_of_rising : (xs : List ℕ) (n : ℕ) → rises xs ≡ true → All (λ x. x ≤ n) xs → length xs ≤ n + 1

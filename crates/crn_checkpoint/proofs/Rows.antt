@@ -1,6 +1,5 @@
 -- The rows of a checkpoint: by their places, as lists, without quotes, and read back.
-use Rattle.std.proofs.Common.{◌≡◌, ◌≢◌, ℕ, ◌+◌, ◌*◌, ◌<◌, ◌≤◌, ◌^◌, zero, suc, Option, Some, None, List, [], ◌∷◌, ◌++◌, map, length, get_or, take, drop, decimal, refl, ap, ◌∙◌, arith, All, codes, append_assoc, ℤ, true, sum, slice_index, sym, subst, inl, inr}
-use Rattle.std.specs.Prelude.{Bool, false, pos, negsuc, ◌≤ℤ◌, ◌+ℤ◌, unsigned_abs, Result, Ok, Err, IsErr, IsErrAnd, MatchResult, alloc_error}
+use Rattle.std.proofs.Common.{◌≡◌, ◌≢◌, ℕ, ◌+◌, ◌*◌, ◌<◌, ◌≤◌, ◌^◌, zero, suc, Option, Some, None, List, [], ◌∷◌, ◌++◌, map, length, get_or, drop, decimal, refl, ap, ◌∙◌, arith, All, codes, append_assoc, ℤ, true, sum, slice_index, sym, subst, inl, inr, Bool, false, pos, negsuc, ◌≤ℤ◌, ◌+ℤ◌, unsigned_abs, Result, Ok, Err, IsErr, IsErrAnd, MatchResult, alloc_error}
 use Rattle.std.proofs.lemmas.Int.{ints}
 use Rattle.crn_draw.specs.Spread.{Weighted}
 use Rattle.crn_draw.specs.Faults.{least_weights_fault}
@@ -39,18 +38,6 @@ use Rattle.crn_limits.specs.Limits.{IsRingSize}
 use Rattle.crn_checkpoint.specs.Inner.Cells.{cell, AreRowsOf}
 use Rattle.crn_rows.specs.Rows.{rows_text}
 
--- ---- lists, prefix and rest
-
-pub take_of : {A : Type 0} (xs ys : List A) (n : ℕ) → n ≡ length xs → take n (xs ++ ys) ≡ xs
-take_of [] ys n e = rw e refl
-take_of (x ∷ xs) ys zero e = absurd (omega (arith, e))
-take_of (x ∷ xs) ys (suc n) e = ap (λ t. x ∷ t) (take_of xs ys n (omega (arith, e)))
-
-pub drop_of : {A : Type 0} (xs ys : List A) (n : ℕ) → n ≡ length xs → drop n (xs ++ ys) ≡ ys
-drop_of [] ys n e = rw e refl
-drop_of (x ∷ xs) ys zero e = absurd (omega (arith, e))
-drop_of (x ∷ xs) ys (suc n) e = drop_of xs ys n (omega (arith, e))
-
 -- ---- amounts are small enough to be read back
 
 pub small_amount : (z : ℤ) → pos 0 ≤ℤ z → z ≤ℤ pos 1000000 → unsigned_abs z < 2 ^ 63
@@ -80,9 +67,8 @@ values_read name (v ∷ values) (w ∷ weights) e = ap (λ t. decimal v ∷ t) (
 
 pub weights_read : (name values weights : List ℕ) → length values ≡ length weights → map (λ (r : List (List ℕ)). get_or r 2 []) (weight_rows name values weights) ≡ map decimal weights
 weights_read name [] [] e = refl
-weights_read name [] (w ∷ weights) e = absurd (omega (arith, e))
-weights_read name (v ∷ values) [] e = absurd (omega (arith, e))
 weights_read name (v ∷ values) (w ∷ weights) e = ap (λ t. decimal w ∷ t) (weights_read name values weights (omega (arith, e)))
+weights_read name values weights e = absurd (omega (arith, e))
 
 -- ---- costs
 
@@ -98,23 +84,11 @@ costs_read r (k ∷ costs) = ap (λ t. decimal k ∷ t) (costs_read (r + 1) cost
 
 pub same_parts : (m : ModelParts) (p r : ℕ) (i : ℤ) (a b c d : ℕ) → p ≡ m.periods → r ≡ m.replications → i ≡ m.initial → a ≡ m.costs.setup → b ≡ m.costs.unit → c ≡ m.costs.holding → d ≡ m.costs.backlog
     → model_parts_of (record { periods = p; replications = r; initial = i; costs = record { setup = a; unit = b; holding = c; backlog = d } }) m.demand m.lead m.returns ≡ m
-same_parts m p r i a b c d ep er ei ea eb ec ed = λ j. record {
-  periods = ep j;
-  replications = er j;
-  initial = ei j;
-  costs = record { setup = ea j; unit = eb j; holding = ec j; backlog = ed j };
-  demand = m.demand;
-  lead = m.lead;
-  returns = m.returns;
-}
+same_parts m p r i a b c d ep er ei ea eb ec ed = rw (ep, er, ei, ea, eb, ec, ed) refl
 
 pub four_words : (key : List ℕ) → length key ≡ 4 → get_or key 0 0 ∷ get_or key 1 0 ∷ get_or key 2 0 ∷ get_or key 3 0 ∷ [] ≡ key
-four_words [] e = absurd (omega (arith, e))
-four_words (a ∷ []) e = absurd (omega (arith, e))
-four_words (a ∷ b ∷ []) e = absurd (omega (arith, e))
-four_words (a ∷ b ∷ c ∷ []) e = absurd (omega (arith, e))
 four_words (a ∷ b ∷ c ∷ d ∷ []) e = refl
-four_words (a ∷ b ∷ c ∷ d ∷ f ∷ key) e = absurd (omega (arith, e))
+four_words key e = absurd (omega (arith, e))
 
 clash : (r : Option DrawFault) (f : DrawFault) → r ≡ None → r ≡ Some f → ⊥
 clash r f h k = cc
@@ -135,11 +109,8 @@ same_policy p name low high en el eh = rw (en, el, eh) refl
 -- ---- faults of the crates below
 
 pub undrawn_memory : (f : DrawFault) → (f ≢ draw.Memory alloc_error → ⊥) → undrawn f ≡ Memory alloc_error
-undrawn_memory draw.Empty h = absurd (h (λ e. cc e))
-undrawn_memory draw.Lengths h = absurd (h (λ e. cc e))
-undrawn_memory draw.Order h = absurd (h (λ e. cc e))
-undrawn_memory draw.Total h = absurd (h (λ e. cc e))
 undrawn_memory (draw.Memory refused) h = refl
+undrawn_memory f h = absurd (h (λ e. cc e))
 
 pub unrestored_memory : (f : RestoreFault) → (f ≢ restore.Memory alloc_error → ⊥) → unrestored f ≡ Memory alloc_error
 unrestored_memory restore.Range h = absurd (h (λ e. cc e))

@@ -45,6 +45,7 @@ fn due_count(state: &State) -> u64
 }
 
 // Returns the sheet with the row of a state's amounts, and of how many rows follow.
+#[tactic(auto, using(crate::proofs::Rows::amounts_plain))]
 fn with_state_row(sheet: Sheet, state: &State) -> Result<Sheet, AllocError>
     requires { length state.now.due ≡ 32 }
     ensures { IfOk result (λ after. after ≡ sheet ++ row_text (spec.state_row state.now)) }

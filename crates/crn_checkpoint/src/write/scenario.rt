@@ -97,6 +97,7 @@ fn returned_count(model: &Model) -> usize
 }
 
 // Returns the sheet with the row of how many numbers of returned items there are, where the version has it.
+#[tactic(auto, using(crate::proofs::Rows::count_plain))]
 fn with_count_row(sheet: Sheet, version: Version, model: &Model) -> Result<Sheet, AllocError>
     ensures { IfOk result (λ after. after ≡ sheet ++ rows_text (spec.count_rows version model.now)) }
 {

@@ -1,5 +1,4 @@
-use Rattle.std.proofs.Common.{◌∙◌, ℕ, List, subst, sym}
-use Rattle.std.specs.Str.{IsUtf8}
+use Rattle.std.proofs.Common.{◌∙◌, ℕ, List, subst, sym, IsUtf8}
 use Rattle.crn_checkpoint.proofs.Places.{cell_at}
 use Rattle.crn_checkpoint.proofs.read.cells.text_in.Goals as goal
 

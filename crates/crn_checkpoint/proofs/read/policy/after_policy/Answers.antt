@@ -2,7 +2,8 @@ use Rattle.std.proofs.Common.{◌∙◌, ◌++◌, length, ap, sym, drop, append
 use Rattle.crn_checkpoint.specs.Inner.Cells.{cell}
 use Rattle.crn_checkpoint.specs.CheckpointText.{due_rows, cost_rows}
 use Rattle.crn_checkpoint.proofs.Lengths.{length_due}
-use Rattle.crn_checkpoint.proofs.Rows.{drop_of, count_of_costs}
+use Rattle.std.proofs.lemmas.List.{drop_at}
+use Rattle.crn_checkpoint.proofs.Rows.{count_of_costs}
 use Rattle.crn_checkpoint.proofs.read.policy.after_policy.Goals as goal
 
 pub returns : goal.returns
@@ -12,5 +13,5 @@ returns c = λ p v rest long many e.
     let first = c.natural_in-dues.ensures (length dues) (omega (arith, long, length_due v.period v.due)) (ap (λ rows. cell rows 1 3) e) in
     let second = c.natural_in-done.ensures (length v.costs) many (ap (λ rows. cell rows 1 4) e) in
     c.after-3.ensures
-    ∙ ap (drop c.natural_in-done.result) (c.after-2.ensures ∙ ap (drop c.natural_in-dues.result) (c.after.ensures ∙ ap (drop 2) e ∙ append_assoc dues costs rest) ∙ drop_of dues (costs ++ rest) c.natural_in-dues.result first)
-    ∙ drop_of costs rest c.natural_in-done.result (second ∙ sym (count_of_costs 0 v.costs))
+    ∙ ap (drop c.natural_in-done.result) (c.after-2.ensures ∙ ap (drop c.natural_in-dues.result) (c.after.ensures ∙ ap (drop 2) e ∙ append_assoc dues costs rest) ∙ drop_at dues (costs ++ rest) c.natural_in-dues.result (sym first))
+    ∙ drop_at costs rest c.natural_in-done.result (count_of_costs 0 v.costs ∙ sym second)

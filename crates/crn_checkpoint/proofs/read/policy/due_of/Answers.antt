@@ -1,6 +1,5 @@
-use Rattle.std.proofs.Common.{◌∙◌, ◌+◌, ◌∷◌, ℕ, ap, sym, arith}
+use Rattle.std.proofs.Common.{◌∙◌, ◌+◌, ◌∷◌, ℕ, ap, sym, arith, take_all}
 use Rattle.std.proofs.Math.ListN.{length-set}
-use Rattle.std.proofs.lemmas.List.{take_all}
 use Rattle.crn_checkpoint.specs.CheckpointText.{due_rows}
 use Rattle.crn_checkpoint.proofs.Dues.{turn}
 use Rattle.crn_checkpoint.proofs.read.policy.due_of.Goals as goal

@@ -1,5 +1,4 @@
-use Rattle.std.proofs.Common.{◌≡◌, ◌<◌, All, List, arith, length, subst, take}
-use Rattle.std.proofs.lemmas.List.{take_all}
+use Rattle.std.proofs.Common.{◌≡◌, ◌<◌, All, List, arith, length, subst, take, take_all}
 use Rattle.std.proofs.lemmas.List.Elements.{All-more}
 use Rattle.crn_stock.specs.Parts.{Parts, AreInRange}
 use Rattle.crn_checkpoint.proofs.WrittenRows.{policy_written}
