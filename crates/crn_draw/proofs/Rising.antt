@@ -1,6 +1,6 @@
 -- Numbers that rise strictly, read from the front.
 use Rattle.std.proofs.Common.{◌≡◌, ℕ, zero, suc, ◌+◌, ◌<◌, ◌≤◌, Bool, true, ◌&&◌, List, [], ◌∷◌, AllPairs, None, length, sum, slice_index_or, refl, sym, ◌∙◌, arith, nat_le, nat_lt}
-use Rattle.std.proofs.lemmas.Bool.{and_parts}
+use Rattle.std.proofs.lemmas.Bool.{and_parts, leb-true}
 use Rattle.std.proofs.lemmas.Bool.Decides.{nat_tests}
 use Rattle.crn_draw.specs.Faults.{rises, least_weights_fault, AreWeighted}
 
@@ -8,9 +8,6 @@ use Rattle.crn_draw.specs.Faults.{rises, least_weights_fault, AreWeighted}
 abbrev pub rises_from : ℕ → List ℕ → Bool
 rises_from least [] = true
 rises_from least (x ∷ xs) = nat_le least x && rises_from (x + 1) xs
-
-pub le-from : (a b : ℕ) → nat_le a b ≡ true → a ≤ b
-le-from a b e = grind (arith, nat_tests)
 
 lt-le : (a b : ℕ) → nat_le (a + 1) b ≡ nat_lt a b
 lt-le a b = grind (arith, nat_tests)
@@ -28,20 +25,18 @@ rises_zero (x ∷ xs) = rw (zero-le x) (rises_next x xs)
 
 at-least : (least : ℕ) (xs : List ℕ) (k d : ℕ) → rises_from least xs ≡ true → k < length xs → least ≤ slice_index_or xs k d
 at-least least [] k d up lt = absurd (omega (arith, lt))
-at-least least (x ∷ xs) zero d up lt = le-from least x (and_parts (nat_le least x) (rises_from (x + 1) xs) up).0
+at-least least (x ∷ xs) zero d up lt = leb-true least x (and_parts (nat_le least x) (rises_from (x + 1) xs) up).0
 at-least least (x ∷ xs) (suc k) d up lt =
     let parts = and_parts (nat_le least x) (rises_from (x + 1) xs) up in
-    omega (arith, le-from least x parts.0, at-least (x + 1) xs k d parts.1 (omega (arith, lt)))
+    omega (arith, leb-true least x parts.0, at-least (x + 1) xs k d parts.1 (omega (arith, lt)))
 
 -- each is less than all later ones
 pub pairs-rise : (least : ℕ) (xs : List ℕ) → rises_from least xs ≡ true → AllPairs (λ x y. x < y) xs
-pairs-rise least [] up i j d lt inside = absurd (omega (arith, inside))
-pairs-rise least (x ∷ xs) up zero zero d lt inside = absurd (omega (arith, lt))
 pairs-rise least (x ∷ xs) up zero (suc j) d lt inside =
     omega (arith, at-least (x + 1) xs j d (and_parts (nat_le least x) (rises_from (x + 1) xs) up).1 (omega (arith, inside)))
-pairs-rise least (x ∷ xs) up (suc i) zero d lt inside = absurd (omega (arith, lt))
 pairs-rise least (x ∷ xs) up (suc i) (suc j) d lt inside =
     pairs-rise (x + 1) xs (and_parts (nat_le least x) (rises_from (x + 1) xs) up).1 i j d (omega (arith, lt)) (omega (arith, inside))
+pairs-rise least xs up i j d lt inside = absurd (omega (arith, lt, inside))
 
 -- nothing is refused of values and weights with all that is asked
 pub no_fault : (values weights : List ℕ) → 0 < length values → length values ≡ length weights → rises values ≡ true → 0 < sum weights → sum weights ≤ 65536
