@@ -168,7 +168,7 @@ def test_equal_plans_are_equal(path: Path, program: Path) -> None:
     assert one != "plan"
 
 
-def test_representations(results: Mapping[str, Result], path: Path) -> None:
+def test_representations(results: Mapping[str, Result]) -> None:
     """Each is one line: what a plan or an item comes to, and how many rows others have."""
     plan, item = results["plan"], results["item"]
     saving = plan.frame["saving"].sum()
@@ -268,7 +268,7 @@ def test_a_number_of_a_fraction_is_shown_as_it_is() -> None:
     assert cells_of(ItemFigures(table)._repr_html_()) == [["mean"], ["7/2"], ["-"]]
 
 
-def test_trajectories(results: Mapping[str, Result], program: Path) -> None:
+def test_trajectories(program: Path) -> None:
     """They have a frame with named columns, and are a sequence with a list of periods for each policy."""
     scenario = crn.Scenario.of(
         {0: 1, 3: 1}, [1], setup=5, holding=1, backlog=9, today=(2, 8)

@@ -249,7 +249,7 @@ def test_same_bytes_by_two_processes(
     assert " 0 items planned" in told.errors and "offers" not in told.errors
 
 
-def test_price_is_kept(tmp_path: Path, crnplan: Command, program: Path) -> None:
+def test_price_is_kept(tmp_path: Path, program: Path) -> None:
     """A price stays, also in a plan after this one, until it is to be learned again. New prices of an item change its
     plan alone."""
     files = write(tmp_path)
@@ -342,9 +342,7 @@ def test_verdicts(program: Path) -> None:
     assert {*own[~dearer].verdict} <= {"cheaper"}
 
 
-def test_learned_again_in_its_folder(
-    tmp_path: Path, crnplan: Command, program: Path
-) -> None:
+def test_learned_again_in_its_folder(tmp_path: Path, program: Path) -> None:
     """New rows of an item change its plan alone, until the price is to be learned again: then it is that of a new
     folder."""
     files = write(tmp_path)

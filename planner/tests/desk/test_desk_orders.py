@@ -275,7 +275,7 @@ def test_what_did_not_come_stays_on_order(planner: Planner, shown: Shown) -> Non
         assert left.keys() >= {it.item for it in placed} - {"0017"}
 
 
-def test_what_was_typed_is_shown_again(planner: Planner, shown: Shown) -> None:
+def test_what_was_typed_is_shown_again(shown: Shown) -> None:
     """A form that is refused is shown with its quantities beside those that are kept."""
     sent = shown.send(shown.form("0017"), change={"0017": "50"}, without="=1+1")
     assert "50 of 0017 is not in packs of 6" in refusal(sent)

@@ -133,8 +133,10 @@ def test_first_screen_is_that_of_the_page(buyer: Planner, tmp_path: Path) -> Non
 
 
 def test_headings_sort(buyer: Planner, tmp_path: Path) -> None:
-    """A click on the heading sorts by it, numbers from the greatest on, and a second click the other way."""
+    """A click on the heading sorts by it, numbers from the greatest on, and a second click the other way. A text has its
+    column though no item has one."""
     links = page_of(buyer, tmp_path).links
+    assert "sort=override" in links["override"]
     saving = links["saving, money a week"]
     assert "sort=saving" in saving and "falls" not in saving
     assert "sort=cost_today&falls=1" in links["cost today, money a week"]
@@ -200,7 +202,7 @@ def test_no_other_file_is_served(buyer: Planner, name: str) -> None:
     assert buyer.get(f"/result/{name}").status_code == 404
 
 
-def test_other_plans_are_offered(planner: Planner, tmp_path: Path) -> None:
+def test_other_plans_are_offered(planner: Planner) -> None:
     path = add_made_plan(planner.front, 12)
     assert 'name="plan"><option' not in planner.get("/result").text
     path.rename(path.with_name("older"))

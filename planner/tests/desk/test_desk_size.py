@@ -91,9 +91,7 @@ def test_placed_orders_are_shown_in_parts(large: Planner) -> None:
     assert [*map(int, links)] == [*range(0, len(placed), MOST_LINES)]
 
 
-def test_what_is_kept_of_a_plan_is_computed_once(
-    large: Planner, tmp_path: Path
-) -> None:
+def test_what_is_kept_of_a_plan_is_computed_once(large: Planner) -> None:
     """Pages of one plan share what was computed of it."""
     first = large.get("/result").text
     known = {**large.front.known}

@@ -147,6 +147,8 @@ def test_law_of_a_part_of_the_year() -> None:
     assert alone_.season and float(alone_.demand.mean) == pytest.approx(
         float(alone_.season.law.mean) * question.season.factor, rel=1e-3
     )
+    season = dataclasses.replace(question.season, mean=2 * question.season.mean)
+    assert 2 * season.factor == pytest.approx(question.season.factor)
 
 
 def test_item_without_past() -> None:

@@ -61,9 +61,7 @@ def test_a_time_without_a_unit_is_refused(role: str, every: str) -> None:
         assert f'units={{"items": {{"{role}": "{unit}"}}}}' in str(refused.value)
 
 
-def test_receipts_say_no_unit(
-    crnplan: Command, files: dict[str, Any], tmp_path: Path
-) -> None:
+def test_receipts_say_no_unit(crnplan: Command, files: dict[str, Any]) -> None:
     """Stated 14 is refused also beside receipts after 13 to 16 days, which may be late. A word says the unit."""
     words, orders = files.values()
     masters_of({**BARE, "lead": 14}, {**BARE, "lead": 28}).to_csv(words[2], index=False)

@@ -150,7 +150,7 @@ def test_any_batches_and_workers(
     assert asked(folder) == numbers
 
 
-def test_large_batches(store: Squares, monkeypatch: pytest.MonkeyPatch) -> None:
+def test_large_batches(store: Squares) -> None:
     """Workers for which a batch costs time get larger ones, if there are many items for each."""
     sizes = list[int]()
 
