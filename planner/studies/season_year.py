@@ -86,10 +86,9 @@ def simulated(
     first."""
     season, item = asked.season, asked.item
     assert season
-    parts = parts_of("week", season.year[0].first, LATER)
     demands = np.zeros((YEARS + 1, LATER), int)
-    for week, part in enumerate(parts):
-        law = at_rate(season.law, season.rates[part])
+    for week, rate in enumerate(season.rates(LATER).tolist()):
+        law = at_rate(season.law, rate)
         demands[:, week] = law.draws(random, YEARS + 1)
     every = demands.size
     past = Realization(demands.ravel().tolist(), (0,) * every, item.leads * every)

@@ -2,20 +2,24 @@
 from __future__ import annotations
 
 from collections.abc import Sequence
+from datetime import date
 
 import numpy as np
 import pytest
 
 from crnplan.chances import Floats
+from crnplan.demand.seasons import Calendar, easters
 from crnplan.demand.standing_out import (
     Amounts,
     HighWeeks,
-    class_roots,
+    class_means,
     in_each_year,
     standing_out,
 )
+from crnplan.read.dates import first_day, period_of
 
-FIRST = 2_700  # the number of a week
+FIRST = period_of(date(2021, 9, 27), "week")
+EASTERS = date(2022, 4, 17), date(2023, 4, 9), date(2024, 3, 31)
 
 
 def drawn(seed: int, lifts: Floats, items: int = 20, mean: float = 10) -> list[Amounts]:
@@ -80,11 +84,74 @@ def test_small_lifts_and_few_items_say_nothing() -> None:
     assert standing_out([*slow, *drawn(5, lifted([30]))]).promoted == (FIRST + 30,)
 
 
+def at_easter(years: int, lifts: Sequence[float]) -> Floats:
+    """Returns how many times the usual is asked for: a lift in some weeks, of which the last is that of Easter."""
+    by_week = np.ones(52 * years)
+    for day in EASTERS[:years]:
+        week = (day - first_day(FIRST, "week")).days // 7
+        by_week[week - len(lifts) + 1 : week + 1] = lifts
+    return by_week
+
+
+@pytest.mark.parametrize("years", [2, 3])
+@pytest.mark.parametrize("lifts", [(1, 1, 4), (1, 2, 4), (3, 1, 1)])
+def test_easter(years: int, lifts: Sequence[float]) -> None:
+    """The weeks around Easter have the lifts that were planted, also those of a class that has promotions; none of them is
+    one, and none stands out in the same week of each year."""
+    by_week = at_easter(years, lifts)
+    by_week[[3, 60]] = 3
+    found = standing_out(drawn(7, by_week, items=60))
+    assert found.easter == pytest.approx((*lifts, 1), rel=0.12)
+    assert found[:2] == ((FIRST + 3, FIRST + 60), ())
+    seen_once = at_easter(years, lifts)
+    seen_once[:52] = 1
+    assert years > 2 or standing_out(drawn(8, seen_once, items=60)).easter == ()
+
+
+def test_weeks_of_the_year_are_not_easter() -> None:
+    """Of two Easters that are a week apart, three weeks that are high in the same weeks of both years are a season, also if
+    Easter is among them. What is high at one Easter alone is a promotion."""
+    weeks = at_easter(2, (3,))
+    first, second = np.flatnonzero(weeks > 1)
+    assert second - first == 51
+    fixed = lifted(
+        [week for it in (first, first + 52) for week in (it - 1, it, it + 1)]
+    )
+    found = standing_out(drawn(9, fixed, items=60))
+    assert found.easter == () and len(found.recurring) == 6
+    once = standing_out(drawn(9, lifted([int(first)]), items=60))
+    assert once == HighWeeks((FIRST + int(first),))
+
+
+def test_false_easters_are_rare() -> None:
+    """Of 200 classes with as many promotions as the study has, at most 2% are taken for moved by Easter."""
+    random, seen = np.random.default_rng(12), 0
+    for seed in range(200):
+        by_week = np.where(random.random(104) < 0.06, 3.0, 1.0)
+        seen += standing_out(drawn(seed, by_week)).easter != ()
+    assert seen <= 4
+
+
 def test_roots_of_a_class() -> None:
     """By hand: the means of the square roots of demand beside its mean, from the first week of all, where ten are known."""
     one = Amounts(3, np.array([4.0, 0, 2, np.nan]))
     two = Amounts(4, np.array([8.0, 2]))
-    first, roots = class_roots([one] * 9 + [two] * 3)
+    first, roots = class_means([one] * 9 + [two] * 3, 0.5)
     assert first == 3 and np.isnan(roots[[0, 3]]).all()
     wanted = [(9 * 0 + 3 * 1.6**0.5) / 12, (9 * 1 + 3 * 0.4**0.5) / 12]
     assert roots[1:3] == pytest.approx(wanted)
+
+
+def test_calendar() -> None:
+    """By hand: Easter Sundays are 9 April 2023 and 31 March 2024, and weeks begin on Mondays. The second week before is 12
+    weeks after that of 26 December; a record that begins or ends amid these weeks has the rest of them.
+    """
+    first = period_of(date(2022, 12, 26), "week")
+    places = [[12, 13, 14, 15], [63, 64, 65, 66]]
+    assert easters(first, 104).tolist() == places
+    assert easters(first, 66).tolist() == places[:1]
+    assert easters(first + 13, 104).tolist() == [[50, 51, 52, 53]]
+    calendar = Calendar(easter=(1.0, 2.0, 4.0, 0.5))
+    assert calendar.factors(first + 13, 4).tolist() == [2, 4, 0.5, 1]
+    assert calendar.factors(first, 14).tolist() == [1.0] * 13 + [2.0]
+    assert (Calendar().factors(first, 52) == 1).all()

@@ -15,6 +15,8 @@ import pandas as pd
 import pytest
 
 from crnplan.demand.index import Index
+from crnplan.demand.seasons import Calendar
+from crnplan.plan.after import levels_in
 from crnplan.plan.aims import FILLS, Aims, Trial
 from crnplan.plan.answer import BOUNDED, CHEAPER, RUN, SAME, UNDECIDED, Answer, YearPart
 from crnplan.plan.choice import allowed_by, choice_of
@@ -169,7 +171,8 @@ def test_own_season() -> None:
     assert index.values.index(max(index.values)) in (18, 19, 20)
     question = question_of(item, alone(every="week", seasons=SEASONS))
     assert question.season
-    facts = question.season.remark.facts
+    (remark,) = question.season.remarks
+    facts = remark.facts
     assert (facts["is_own"], facts["years"], facts["days"]) == (True, 3, 14)
     assert facts["part_most"] == index.values.index(max(index.values))
     assert facts["most"] == max(index.values) and facts["least"] == min(index.values)
@@ -269,13 +272,13 @@ def test_promotions_of_an_item() -> None:
     assert seasons.promotions(seasonal(group="")) == set()
     question = question_of(item, alone(every="week", seasons=seasons))
     assert question.counts == asked().counts and question.season
-    remark = question.season.remark
+    (remark,) = question.season.remarks
     assert remark.facts["promoted"] == 2
     assert "its class, but for 2 promoted periods: 1.5 times the mean" in sentence(
         remark
     )
     (plain,) = [it for it in (asked().season,) if it]
-    assert "its class: 1.5 times" in sentence(plain.remark)
+    assert "its class: 1.5 times" in sentence(*plain.remarks)
 
 
 def test_own_season_without_promotions() -> None:
@@ -291,6 +294,84 @@ def test_own_season_without_promotions() -> None:
     wanted = np.insert(rest / rest.mean(), 4, 1.0)
     assert years.ratios[1] == pytest.approx(wanted)
     assert years.ratios[0] == pytest.approx(counts[2] / counts[2].mean())
+
+
+# A week in which twice the usual is asked for, and that of Easter with four times.
+LIFTED = 1.0, 2.0, 4.0, 1.0
+EASTER = Index((1.0,) * PARTS, 1.0, 0.0, 2, Calendar(easter=LIFTED))
+
+
+def by_week(question: Question) -> list[float]:
+    """Returns the factor of each week of the coming year."""
+    assert question.season
+    factors = list[float]()
+    for stretch in question.season.year:
+        season = question.season.at(stretch)
+        factors += [season.factor] * (stretch.end - stretch.first)
+    return factors
+
+
+def test_easter_at_its_next_date() -> None:
+    """By hand: Easter is on 31 March 2024, in the thirteenth week of the year. An order covers its week and two more, so those of
+    four weeks cover some that are lifted. In the record Easter was on 17 April 2022 and 9 April 2023.
+    """
+    settings = alone(every="week", seasons=Seasons("week", {"warm": EASTER}))
+    item = seasonal(counts=(9,) * 104, leads=(2,))
+    question = question_of(item, settings)
+    season, mean = question.season, (104 + 2 * 4) / 104
+    assert season and season.year[0].days("week")[0] == datetime.date(2024, 1, 1)
+    wanted = [1.0] * 9 + [4 / 3, 7 / 3, 7 / 3, 2.0] + [1.0] * 39
+    assert np.array(by_week(question)) * mean == pytest.approx(wanted)
+    (peak,) = (
+        it for it in season.year if it.days("week")[1] == datetime.date(2024, 3, 31)
+    )
+    flat = float(question.all_year.mean)
+    sold = question.during(peak).as_sold
+    assert float(sold.mean) == pytest.approx(flat * 4 / mean, rel=1e-3)
+    told = [sentence(remark) for remark in season.remarks]
+    assert len(told) == 1 and "4 times the usual around Easter" in told[0]
+    lifted = np.flatnonzero(season.by_period * mean > 1.5)
+    assert lifted.tolist() == [13, 14, 64, 65]
+
+
+def test_class_with_easter() -> None:
+    """A class that is lifted at each Easter has no other season, and its items plan it; marked promotions of these weeks are
+    no Easter."""
+    rates = np.ones(104)
+    rates[[14, 65]], rates[[13, 64]] = 4, 2
+    random = np.random.default_rng(8)
+    items = list[Item]()
+    for name in "ABCDEFGHIJKL":
+        counts = tuple(random.poisson(20 * rates).tolist())
+        items.append(dataclasses.replace(seasonal(counts=counts), name=name))
+    seasons = Seasons.of("week", items)
+    index = seasons.classes["warm"]
+    assert index.calendar.easter == pytest.approx(LIFTED, rel=0.1)
+    assert set(index.values) == {1.0}
+    assert seasons.promoted == {} and seasons.of_item(items[0]) == index
+    years = years_without("week", items[0], (), index.calendar)
+    assert years.ratios[:, 5:9] == pytest.approx(1, abs=0.3)
+    tree = json.loads(json.dumps(dataclasses.asdict(seasons)))
+    assert value_of(Seasons, tree) == seasons
+    marked = [dataclasses.replace(it, promoted=(13, 14, 64, 65)) for it in items]
+    assert Seasons.of("week", marked, True).classes == {}
+
+
+def test_levels_after_a_plan(program: Path) -> None:
+    """Each week has the levels of the earlier plan, however the coming year is divided."""
+    answer, item = answered(program), seasonal()
+    levels = levels_in(answer, "week", item)
+    assert len(levels) == 52 and len(answer.parts) < 30
+    for part in answer.parts:
+        places = slice(part.first - FIRST - 104, part.end - FIRST - 104)
+        assert set(levels[places]) == {(part.s, part.S)}
+    seasons = Seasons("week", {"warm": EASTER})
+    settings = alone(every="week", seasons=seasons, least_gain="99%")
+    kept = plan_asked((item, levels), settings, Prior(NONE), str(program))
+    assert isinstance(kept, Answer) and len(kept.parts) > len(answer.parts)
+    assert [(it.s, it.S) for it in kept.parts] == [
+        levels[it.first - FIRST - 104] for it in kept.parts
+    ]
 
 
 def year_by_hand(question: Question, levels: Sequence[tuple[int, int]]) -> np.ndarray:

@@ -27,7 +27,7 @@ import numpy as np
 from scipy import special
 
 from ..chances import Floats, Whole
-from .seasons import CALENDAR, PARTS_OF_YEAR, YEARS, parts_of
+from .seasons import CALENDAR, PARTS_OF_YEAR, YEARS, Calendar, parts_of
 
 SLOW, FAST = 2, 6  # the most waves a year that are tested together
 # The p value up to which the test sees a season of a class (the study finds at most 2% false alarms with it), and one of
@@ -68,7 +68,7 @@ class Years(NamedTuple):
     @classmethod
     def of(
         cls,
-        counts: Sequence[int],
+        counts: Sequence[float],
         every: str,
         first: int,
         unknown: Sequence[int] = (),
@@ -96,13 +96,20 @@ class Years(NamedTuple):
 
 class Index(NamedTuple):
     """A season: the index of each part of the year from January, whose mean is 1; the p value of the test that there is none; which
-    share of what was seen is left after shrinking; and in how many years it was seen.
+    share of what was seen is left after shrinking; in how many years it was seen; and what moves rates beside it.
     """
 
     values: tuple[float, ...]
     chance: float
     share: float
     years: int
+    calendar: Calendar = Calendar()
+
+    def rates(self, every: str, first: int, size: int) -> Floats:
+        """Returns the rate of each of so many periods, in units of the mean of a year."""
+        parts = parts_of(every, first, size)
+        values: Floats = np.array(self.values)[parts]
+        return values * self.calendar.factors(first, size)
 
 
 def pooled(items: Sequence[Years]) -> Floats:
@@ -153,19 +160,24 @@ def chance_of(far: Floats) -> float:
     return min(1.0, len(chances) * min(chances))
 
 
+def shrunk(far: Floats) -> tuple[Floats, float]:
+    """Returns the mean of distances from what is expected, a row for each of two or more years, and the share of it that is left
+    after shrinking by its error."""
+    mean = far.mean(axis=0)
+    seen = float((mean**2).mean())
+    error = float(((far - mean) ** 2).mean()) / (len(far) - 1)
+    return mean, max(0.0, 1 - error / seen) if seen else 0.0
+
+
 def index_of(ratios: Floats, expected: Floats | float = FLAT) -> Index:
     """Returns the season of ratios, a row for each of two or more years, as far as it differs from what is expected: of
     a class from 1, of an item from the season of its class. The test and the shrinking are by that difference.
     """
-    years = len(ratios)
     far = ratios - expected
-    mean = far.mean(axis=0)
-    seen = float((mean**2).mean())
-    error = float(((far - mean) ** 2).mean()) / (years - 1)
-    share = max(0.0, 1 - error / seen) if seen else 0.0
+    mean, share = shrunk(far)
     values = np.maximum(expected + share * mean, LEAST_INDEX)
     values /= values.mean()
-    return Index(tuple(values.tolist()), chance_of(far), share, years)
+    return Index(tuple(values.tolist()), chance_of(far), share, len(ratios))
 
 
 def differs(index: Index, expected: Floats | float) -> bool:
@@ -218,5 +230,6 @@ def own_index(item: Years, of_class: Index | None, alarms: float = 0.0) -> Index
         return of_class
     expected = np.array(of_class.values) if of_class else np.full(1, FLAT)
     index = index_of(item.ratios, expected)
-    is_seen = index.chance <= alarms and differs(index, expected)
-    return index if is_seen else of_class
+    if index.chance > alarms or not differs(index, expected):
+        return of_class
+    return index._replace(calendar=of_class.calendar) if of_class else index

@@ -7,9 +7,10 @@ from collections.abc import Iterator, Sequence
 from typing import NamedTuple
 
 import numpy as np
+from dateutil.easter import easter
 
-from ..chances import Whole
-from ..read.dates import first_day
+from ..chances import Floats, Whole
+from ..read.dates import first_day, period_of
 from ..remarks import Remark, Value
 
 # The seasons of dated periods: their names, with how many periods each has.
@@ -23,7 +24,36 @@ YEARS = 2  # of a season, before it is tested
 # How many parts the year has by whose index demand is planned, and how many days each of them; 0 for months.
 PARTS_OF_YEAR = {"day": 26, "week": 26, "month": 12}
 DAYS_OF_PART = {"day": 14, "week": 14, "month": 0}
+BEFORE_EASTER, AROUND_EASTER = 2, 4  # weeks before that of Easter, and around it in all
 MOST_PARTS, PARTS = 7, 4  # A longer season is divided into so many parts.
+
+
+def easters(first: int, size: int) -> Whole:
+    """Returns a row for each Easter whose weeks are among so many: the places of the two weeks before that of Easter, of
+    that, and of the one after it."""
+    years = range(
+        first_day(first, "week").year, first_day(first + size, "week").year + 1
+    )
+    weeks = np.array([period_of(easter(year), "week") for year in years])
+    starts = weeks - first - BEFORE_EASTER
+    starts = starts[(starts >= 0) & (starts <= size - AROUND_EASTER)]
+    return np.add.outer(starts, np.arange(AROUND_EASTER))
+
+
+class Calendar(NamedTuple):
+    """How many times as high as usual rates are by the calendar, beside the season: in the weeks around Easter. That is empty
+    if nothing is seen of it.
+    """
+
+    easter: tuple[float, ...] = ()
+
+    def factors(self, first: int, size: int) -> Floats:
+        """Returns how many times as high the rate of each of so many periods is. They are weeks, if any differs."""
+        start, more = first - AROUND_EASTER, size + 2 * AROUND_EASTER
+        factors = np.ones(more)
+        if self.easter:
+            factors[easters(start, more)] = self.easter
+        return factors[AROUND_EASTER:-AROUND_EASTER]
 
 
 class Season(NamedTuple):

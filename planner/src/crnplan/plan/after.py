@@ -10,6 +10,7 @@ from pathlib import Path
 from typing import TYPE_CHECKING
 
 from ..errors import Refused
+from ..demand.seasons import CALENDAR
 from ..store.files import IN_KEPT, Folder
 from ..store.jobs import batched
 from ..read.catalogue_reading import Catalogued
@@ -21,7 +22,6 @@ from .answer import Answer
 from .changes import Change, PlannedTwice, change_of
 from .how import LEARNED, Settings
 from .question import Levels
-from .seasons import coming_year
 
 if TYPE_CHECKING:
     from .catalogue import Planned, PlannedFolder
@@ -78,12 +78,13 @@ def asked_after(
 
 
 def levels_in(before: Answer, every: str, item: Item) -> tuple[Levels, ...]:
-    """Returns the levels that an earlier plan has in each part of the year after the record of an item: one pair if they
+    """Returns the levels that an earlier plan has in each period of the year after the record of an item: one pair if they
     are always the same."""
     if not before.calendar:
         return (before.chosen.levels,)
-    year = coming_year(every, item.first + len(item.counts))
-    return tuple(before.chosen_in(part.first).levels for part in year)
+    first = item.first + len(item.counts)
+    year = range(first, first + CALENDAR[every]["season"])
+    return tuple(before.chosen_in(period).levels for period in year)
 
 
 def stated(settings: Settings) -> dict[str, Value]:

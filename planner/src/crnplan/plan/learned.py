@@ -11,7 +11,7 @@ from typing import Any, NamedTuple, TypeVar, cast
 import numpy as np
 
 from ..demand import AUTO
-from ..demand.seasons import PARTS_OF_YEAR, YEARS
+from ..demand.seasons import PARTS_OF_YEAR, YEARS, Calendar
 from ..demand.learning import LEAST_ITEMS, LEAST_ON_REQUEST, MOST_PULLED, Prior, learn
 from ..store.digests import sha256
 from ..errors import Refused
@@ -157,7 +157,7 @@ def seasons_of(
         items = learners(read, True) if years >= YEARS else ()
         return Seasons.of(every, items, is_marked)
 
-    basis = [every, PARTS_OF_YEAR.get(every), years, is_marked]
+    basis = [every, PARTS_OF_YEAR.get(every), [*Calendar._fields], years, is_marked]
     return learned_once(answers, SEASONS, Seasons, basis, again, learned)
 
 

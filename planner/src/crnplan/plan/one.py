@@ -7,7 +7,6 @@ an item does not depend on what else is planned, nor on how many processes work 
 from __future__ import annotations
 
 import dataclasses
-import itertools
 import math
 from collections.abc import Callable, Iterable, Iterator, Mapping, Sequence
 from pathlib import Path
@@ -184,7 +183,7 @@ def remarks_of_past(question: Question, levels: Levels) -> Iterator[Remark]:
         yield from remarks_of_stated(question)
         return
     if question.season:
-        yield question.season.remark
+        yield from question.season.remarks
     if question.level:
         yield question.level.remark
     yield from remarks_of_cut(question)
@@ -391,15 +390,18 @@ def planned(
     prior: Prior,
     program: str,
 ) -> Answer:
-    """Returns the answer to an item, with its levels in an earlier plan: perhaps those of each part of a year."""
+    """Returns the answer to an item, with its levels in an earlier plan: perhaps those of each period of a year."""
     first = before[0] if before else None
     question, parts = question_of(item, settings, prior, first), list[PlannedPart]()
     if question.season is None:
         return plan_one(question, program)
-    # Levels that are the same all year are there once.
-    earlier = itertools.chain(before[1:], itertools.repeat(first))
-    for stretch in question.season.year:
-        asked = question.during(stretch, next(earlier)) if parts else question
+    year = question.season.year
+    for stretch in year:
+        asked = question
+        if parts:
+            place = stretch.first - year[0].first
+            earlier = before[place % len(before)] if before else None
+            asked = question.during(stretch, earlier)
         parts.append(PlannedPart(asked, plan_one(asked, program)))
     return over_year(parts)
 

@@ -5,9 +5,8 @@ import datetime
 import itertools
 import math
 from collections import defaultdict
-from collections.abc import Iterable, Mapping, Sequence
+from collections.abc import Iterable, Iterator, Mapping, Sequence
 from dataclasses import dataclass, field, replace
-from functools import cached_property
 from typing import NamedTuple
 
 import numpy as np
@@ -15,6 +14,7 @@ import numpy as np
 from ..chances import Floats
 from ..demand.fitted import FittedLaw
 from ..demand.index import (
+    FLAT,
     Index,
     Years,
     class_index,
@@ -22,7 +22,15 @@ from ..demand.index import (
     own_index,
 )
 from ..demand.rate import at_rate, without_rate
-from ..demand.seasons import CALENDAR, DAYS_OF_PART, parts_of
+from ..demand.seasons import (
+    CALENDAR,
+    DAYS_OF_PART,
+    PARTS_OF_YEAR,
+    YEARS,
+    Calendar,
+    easters,
+    parts_of,
+)
 from ..demand.standing_out import Amounts, HighWeeks, standing_out
 from ..law import Law
 from ..read.dates import first_day
@@ -42,22 +50,26 @@ class Stretch(NamedTuple):
         return first_day(self.first, every), after - datetime.timedelta(1)
 
 
-def coming_year(every: str, first: int) -> list[Stretch]:
-    """Returns the coming year from a period on, by its parts."""
+def coming_year(
+    every: str, first: int, lead: int = 0, calendar: Calendar = Calendar()
+) -> list[Stretch]:
+    """Returns the coming year from a period on, by its parts: in one, orders cover the same weeks around
+    Easter, each its own and those of a lead time more."""
     year = CALENDAR[every]["season"]
     parts = parts_of(every, first, year).tolist()
+    factors = calendar.factors(first, year + lead)
+    covered = np.lib.stride_tricks.sliding_window_view(factors, lead + 1).tolist()
     stretches = list[Stretch]()
-    for _, periods in itertools.groupby(range(year), parts.__getitem__):
+    keys = [*zip(parts, covered)]
+    for _, periods in itertools.groupby(range(year), keys.__getitem__):
         places = [*periods]
         stretches.append(Stretch(first + places[0], first + places[-1] + 1))
     return stretches
 
 
 def by_period(every: str, item: Item, index: Index) -> Floats:
-    """Returns an index by period of the record of an item."""
-    parts = parts_of(every, item.first, len(item.counts))
-    values: Floats = np.array(index.values)[parts]
-    return values
+    """Returns the rate of each period of the record of an item."""
+    return index.rates(every, item.first, len(item.counts))
 
 
 @dataclass(frozen=True)
@@ -78,10 +90,10 @@ class InSeason:
     stretch: Stretch
     promoted: int = 0
 
-    @cached_property
-    def rates(self) -> Floats:
-        """Returns the rate of each part of the year, in units of the mean one of the record."""
-        return np.array(self.index.values) / self.mean
+    def rates(self, size: int) -> Floats:
+        """Returns the rate of each of so many periods from the stretch on, in units of the mean one of the record."""
+        first = self.stretch.first
+        return self.index.rates(self.every, first, size) / self.mean
 
     @property
     def factor(self) -> float:
@@ -89,9 +101,8 @@ class InSeason:
         time more."""
         first, end = self.stretch
         periods = end - first
-        parts = parts_of(self.every, first, periods + self.lead)
         covered = np.convolve(np.ones(periods), np.ones(self.lead + 1))
-        return float(covered @ self.rates[parts] / covered.sum())
+        return float(covered @ self.rates(len(covered)) / covered.sum())
 
     def of(self, law: Law) -> Law:
         """Returns a law of demand without the season as it is in the stretch."""
@@ -119,7 +130,9 @@ class InSeason:
     @property
     def as_sold(self) -> FittedLaw:
         """Returns the law of what is sold in the stretch itself."""
-        return self.law.like(at_rate(self.law, self.rates[self.part]))
+        first, end = self.stretch
+        mean = float(self.rates(end - first).mean())
+        return self.law.like(at_rate(self.law, mean))
 
     @property
     def sold(self) -> tuple[int, ...]:
@@ -129,9 +142,13 @@ class InSeason:
         return tuple(self.item.counts[place] for place in places)
 
     @property
-    def remark(self) -> Remark:
-        """Returns what is to be said of it."""
-        values = self.index.values
+    def remarks(self) -> Iterator[Remark]:
+        """Yields what is to be said of it."""
+        values, calendar = self.index.values, self.index.calendar
+        if calendar.easter:
+            yield Remark("Easter planned", {"most": max(calendar.easter)})
+        if max(values) == min(values):
+            return
         facts: dict[str, Value] = {
             "is_own": self.is_own,
             "years": self.index.years,
@@ -142,7 +159,7 @@ class InSeason:
             "least": min(values),
             "part_least": values.index(min(values)),
         }
-        return Remark("season planned", facts)
+        yield Remark("season planned", facts)
 
 
 @dataclass(frozen=True)
@@ -169,11 +186,14 @@ class Seasons:
         alarms = dict[str, float]()
         for name in sorted(groups):
             high, own = HighWeeks(), groups[name]
-            if every == "week" and not is_marked:
-                high = standing_out([*map(amounts_of, own)])
-            index = index_without(every, own, high)
+            calendar = Calendar()
+            if every == "week":
+                calendar, high = calendar_of(own)
+            if is_marked:
+                high = HighWeeks()
+            index = index_without(every, own, high, calendar)
             alarm = own_alarms(
-                [years_without(every, item, high.promoted) for item in own]
+                [years_without(every, item, high.promoted, calendar) for item in own]
             )
             if high.promoted:
                 promoted[name] = high.promoted
@@ -189,10 +209,10 @@ class Seasons:
 
     def of_item(self, item: Item) -> Index | None:
         """Returns the index of an item: its own if that is clear, else that of its class; None without a season."""
-        weeks = self.promoted.get(item.group, ())
-        years = years_without(self.every, item, weeks)
-        alarms = self.own.get(item.group, 0.0)
-        return own_index(years, self.classes.get(item.group), alarms)
+        weeks, index = self.promoted.get(item.group, ()), self.classes.get(item.group)
+        calendar = index.calendar if index else Calendar()
+        years = years_without(self.every, item, weeks, calendar)
+        return own_index(years, index, self.own.get(item.group, 0.0))
 
     def is_own(self, item: Item, index: Index) -> bool:
         """Returns whether the index of an item is not that of its class."""
@@ -207,7 +227,8 @@ class Seasons:
         counts = np.rint(np.array(item.counts) * mean / rates).astype(int)
         own = [item.counts[place] for place in known]
         counts[known] = without_rate(own, rates[known], random)
-        most = float(counts.max(initial=0)) * max(index.values) / mean
+        rate = max(index.calendar.easter, default=1.0)
+        most = float(counts.max(initial=0)) * max(index.values) * rate / mean
         return replace(item, counts=tuple(counts.tolist()), coming=math.ceil(most))
 
     def in_season(
@@ -215,9 +236,10 @@ class Seasons:
     ) -> InSeason:
         """Returns how an item is planned for the first part of the year after its record, by the law of its demand without
         the season, and by that of its lead time."""
-        year = coming_year(self.every, item.first + len(item.counts))
         # A review less often than in each period has half of the time between two more to cover, in the mean.
         periods = round(float(lead.mean) + (item.review - 1) / 2)
+        end = item.first + len(item.counts)
+        year = coming_year(self.every, end, periods, index.calendar)
         return InSeason(
             item,
             index,
@@ -239,10 +261,16 @@ def mean_rate(item: Item, rates: Floats) -> float:
 
 
 def amounts_of(item: Item) -> Amounts:
-    """Returns the demand of an item by week, NaN where it is not known."""
+    """Returns the demand of an item by week, NaN where it is not known, or marked as promoted."""
     amounts = np.array(item.counts, float)
-    amounts[[*item.unknown]] = np.nan
+    amounts[[*item.unknown, *item.promoted]] = np.nan
     return Amounts(item.first, amounts)
+
+
+def calendar_of(items: Sequence[Item]) -> tuple[Calendar, HighWeeks]:
+    """Returns what moves a class of weekly items beside its season, and the weeks that stand out otherwise."""
+    high = standing_out([*map(amounts_of, items)])
+    return Calendar(high.easter), high
 
 
 def promotions_of(item: Item, weeks: Sequence[int]) -> set[int]:
@@ -251,25 +279,38 @@ def promotions_of(item: Item, weeks: Sequence[int]) -> set[int]:
     return places.union(item.promoted)
 
 
-def years_without(every: str, item: Item, weeks: Sequence[int]) -> Years:
-    """Returns the years of an item, in which its promoted periods, and weeks by their numbers, count as unknown."""
-    places = promotions_of(item, weeks).union(item.unknown)
-    return Years.of(item.counts, every, item.first, sorted(places))
+def years_without(
+    every: str, item: Item, weeks: Sequence[int], calendar: Calendar = Calendar()
+) -> Years:
+    """Returns the years of an item without what a calendar moves, in which its promoted periods, weeks by their numbers, and
+    those around an Easter that moves it count as unknown."""
+    places, size = promotions_of(item, weeks).union(item.unknown), len(item.counts)
+    if calendar.easter:
+        places.update(easters(item.first, size).ravel().tolist())
+    counts = np.array(item.counts) / calendar.factors(item.first, size)
+    return Years.of(counts.tolist(), every, item.first, sorted(places))
 
 
-def index_without(every: str, items: Sequence[Item], high: HighWeeks) -> Index | None:
-    """Returns the season of a class without its promoted weeks; None if it has none. Promotions that happen to be in one
-    week of each year are no season, so without the others it must be seen with them out too, or with all weeks in.
+def index_without(
+    every: str, items: Sequence[Item], high: HighWeeks, calendar: Calendar
+) -> Index | None:
+    """Returns the season of a class without its promoted weeks, and what moves it beside; None if it has neither.
+    Promotions that happen to be in one week of each year are no season, so without the others it must be seen with them
+    out too, or with all weeks in.
     """
 
     def without(weeks: Sequence[int]) -> Index | None:
-        return class_index([years_without(every, item, weeks) for item in items])
+        return class_index(
+            [years_without(every, item, weeks, calendar) for item in items]
+        )
 
     index = without(high.promoted)
     if index and high.promoted and high.recurring:
         is_sure = without(high.promoted + high.recurring) or without(())
-        return index if is_sure else None
-    return index
+        index = index if is_sure else None
+    if index is None and any(calendar):
+        index = Index((FLAT,) * PARTS_OF_YEAR[every], 1.0, 0.0, YEARS)
+    return index and index._replace(calendar=calendar)
 
 
 def whole_years(every: str, periods: int) -> int:
