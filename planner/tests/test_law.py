@@ -172,6 +172,15 @@ def test_refused(name: str) -> None:
         make()
 
 
+def test_frame() -> None:
+    frame = Law.of({0: 1, 5: 3}).frame
+    assert frame.to_dict("list") == {
+        "value": [0, 5],
+        "weight": [1, 3],
+        "chance": [0.25, 0.75],
+    }
+
+
 def test_scenarios_take_what_laws_take() -> None:
     """Checks that a scenario names the law, and takes shares as a law does."""
     costs: Any = {"setup": 32, "holding": 1, "backlog": 5, "today": (20, 40)}

@@ -82,6 +82,7 @@ def test_items_that_are_hardly_met(program: Path, together: crn.Plan) -> None:
     fills = whole_frame(plan)[lambda row: row.fill_together.notna()].fill_chosen
     few = int((fills < wanted / 2).sum())
     assert few
+    assert f"\n{words}" in plan.text
     for name in ("summary.txt", "report.html"):
         assert f"{words} is met of {few} item" in (plan.path / name).read_text()
         assert words not in (together.path / name).read_text()
@@ -165,6 +166,19 @@ def test_what_masters_do_not_say(program: Path, alone: pd.DataFrame) -> None:
     for items, alike in ((masters, True), (masters.assign(price=None), False)):
         each = whole_frame(crn.plan(sales, items, fill=0.95, alike=alike, **words))
         assert (each.S_chosen == levels).all()
+
+
+def test_bounds_below_what_is_wanted_of_all(program: Path) -> None:
+    """Items whose bounds leave less than what is wanted of all, each without a goal of its own, meet what they can."""
+    sales, masters = made()
+    read = crn.read_catalogue(sales, masters[:-BACKLOG].drop(columns="fill"), fill=0.99)
+    words: dict[str, Any] = {**SETTINGS, "program": program, "max_coverage": 3}
+    together, each = (
+        whole_frame(crn.plan(read, alike=alike, **words)) for alike in (False, True)
+    )
+    assert met(crn.plan(read, **words)) < 0.99
+    assert (each.fill_chosen < 0.99).sum() > len(each) // 2
+    assert (together.S_chosen == each.S_chosen).all()
 
 
 def test_items_without_a_price(program: Path, alone: pd.DataFrame) -> None:

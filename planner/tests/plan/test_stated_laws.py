@@ -20,7 +20,7 @@ from crnplan.plan.backtest.one import Backtest, backtest_item
 from crnplan.plan.item import Depth
 from crnplan.plan.offers import Asked, Offer, offer_of, past_of
 from crnplan.plan.one import or_fault, plan_one
-from crnplan.plan.question import question_of
+from crnplan.plan.question import NoPolicy, question_of
 from crnplan.plan.seasons import Seasons
 from crnplan.read.item import STATED, Item
 from crnplan.remarks import Remark
@@ -66,6 +66,13 @@ def test_what_was_seen_does_not_count(program: Path) -> None:
     assert (law.table, law.box) == (LAW, 1)
     assert law.diagnostics.seen == crn.Law((0, 50, 60, 70), (5, 5, 5, 5))
     assert not [*fit_words(law)]
+
+
+def test_a_law_without_demand_has_no_plan(program: Path) -> None:
+    question = question_of(stated(crn.Law.of({0: 1})), alone())
+    with pytest.raises(NoPolicy) as raised:
+        plan_one(question, str(program))
+    assert raised.value.fault == Remark("no demand by law")
 
 
 def test_large_demands_are_counted_in_boxes(program: Path) -> None:
