@@ -26,6 +26,7 @@ STUDIES = (
     "borrowing",
     "doubt",
     "seasons",
+    "calendars",
     "season_plans",
     "season_year",
     "beside_rules",

@@ -19,6 +19,7 @@ from planner.studies import (
     __main__,
     beside_rules,
     borrowing,
+    calendars,
     by_commands,
     cut_sales,
     dependence,
@@ -90,6 +91,11 @@ SMALL = {
         len(seasons.SMALL),
         "kind season years items",
     ),
+    "calendars": (
+        lambda: calendars.study(calendars.SMALL_SEEDS),
+        len(calendars.KINDS),
+        "kind",
+    ),
     "season_plans": (
         lambda: season_plans.study(season_plans.SMALL, 1, 30),
         4,
@@ -125,6 +131,7 @@ FIGURES = {
     "level_spread_tail": level_spread_tail.FIGURES,
     "doubt": doubt.FIGURES,
     "seasons": seasons.FIGURES,
+    "calendars": calendars.FIGURES,
     "season_plans": season_plans.FIGURES,
     "season_year": season_year.FIGURES,
     "dependence": ["regret", "promise"],

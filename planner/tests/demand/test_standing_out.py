@@ -154,4 +154,10 @@ def test_calendar() -> None:
     calendar = Calendar(easter=(1.0, 2.0, 4.0, 0.5))
     assert calendar.factors(first + 13, 4).tolist() == [2, 4, 0.5, 1]
     assert calendar.factors(first, 14).tolist() == [1.0] * 13 + [2.0]
+    quarter = Calendar(quarter=(3.0, *[1.0] * 12))
+    assert np.flatnonzero(quarter.factors(13 * 200 + 12, 28) == 3).tolist() == [
+        1,
+        14,
+        27,
+    ]
     assert (Calendar().factors(first, 52) == 1).all()

@@ -347,7 +347,7 @@ def test_class_with_easter() -> None:
     seasons = Seasons.of("week", items)
     index = seasons.classes["warm"]
     assert index.calendar.easter == pytest.approx(LIFTED, rel=0.1)
-    assert set(index.values) == {1.0}
+    assert not index.calendar.quarter and set(index.values) == {1.0}
     assert seasons.promoted == {} and seasons.of_item(items[0]) == index
     years = years_without("week", items[0], (), index.calendar)
     assert years.ratios[:, 5:9] == pytest.approx(1, abs=0.3)
@@ -355,6 +355,20 @@ def test_class_with_easter() -> None:
     assert value_of(Seasons, tree) == seasons
     marked = [dataclasses.replace(it, promoted=(13, 14, 64, 65)) for it in items]
     assert Seasons.of("week", marked, True).classes == {}
+
+
+def test_each_week_of_a_quarter() -> None:
+    """By hand: where the first week of a quarter has twice the rate, an order of that and of the next one has half again."""
+    calendar = Calendar((2.0, *[1.0] * 12))
+    index = Index((1.0,) * PARTS, 1.0, 0.0, 2, calendar)
+    settings = alone(every="week", seasons=Seasons("week", {"warm": index}))
+    question = question_of(seasonal(counts=(9,) * 104, leads=(1,)), settings)
+    weeks = FIRST + 104 + np.arange(53)
+    rates = np.where(weeks % 13 == 0, 2.0, 1.0)
+    wanted = (rates[:-1] + rates[1:]) / 2 * 13 / 14
+    assert by_week(question) == pytest.approx(wanted)
+    (remark,) = question.season.remarks if question.season else ()
+    assert "2 times the mean" in sentence(remark)
 
 
 def test_levels_after_a_plan(program: Path) -> None:

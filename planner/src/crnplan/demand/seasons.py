@@ -24,6 +24,7 @@ YEARS = 2  # of a season, before it is tested
 # How many parts the year has by whose index demand is planned, and how many days each of them; 0 for months.
 PARTS_OF_YEAR = {"day": 26, "week": 26, "month": 12}
 DAYS_OF_PART = {"day": 14, "week": 14, "month": 0}
+QUARTER = 13  # weeks, of months of 4, 4 and 5
 BEFORE_EASTER, AROUND_EASTER = 2, 4  # weeks before that of Easter, and around it in all
 MOST_PARTS, PARTS = 7, 4  # A longer season is divided into so many parts.
 
@@ -41,10 +42,11 @@ def easters(first: int, size: int) -> Whole:
 
 
 class Calendar(NamedTuple):
-    """How many times as high as usual rates are by the calendar, beside the season: in the weeks around Easter. That is empty
-    if nothing is seen of it.
+    """How many times as high as usual rates are by the calendar, beside the season: in each of the 13 weeks of a quarter, by
+    their numbers, and in those around Easter. Both are empty if nothing is seen of them.
     """
 
+    quarter: tuple[float, ...] = ()
     easter: tuple[float, ...] = ()
 
     def factors(self, first: int, size: int) -> Floats:
@@ -53,6 +55,9 @@ class Calendar(NamedTuple):
         factors = np.ones(more)
         if self.easter:
             factors[easters(start, more)] = self.easter
+        if self.quarter:
+            weeks = np.arange(start, start + more)
+            factors *= np.array(self.quarter)[weeks % QUARTER]
         return factors[AROUND_EASTER:-AROUND_EASTER]
 
 

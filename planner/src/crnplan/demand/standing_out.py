@@ -9,7 +9,7 @@ weeks are found, and how many others.
 
 Easter moves between 22 March and 25 April (Bell and Hillmer, Modeling time series with calendar variation, 1983). A week
 that stands out at the same distance from it in each year is none of a season, if that explains more of the squares than the
-same weeks of each year do.
+same weeks of each year do. The study planner/studies/calendars.py measures how often it errs.
 """
 from __future__ import annotations
 

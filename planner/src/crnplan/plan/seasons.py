@@ -22,6 +22,7 @@ from ..demand.index import (
     own_index,
 )
 from ..demand.rate import at_rate, without_rate
+from ..demand.quarter import quarter_of
 from ..demand.seasons import (
     CALENDAR,
     DAYS_OF_PART,
@@ -53,7 +54,7 @@ class Stretch(NamedTuple):
 def coming_year(
     every: str, first: int, lead: int = 0, calendar: Calendar = Calendar()
 ) -> list[Stretch]:
-    """Returns the coming year from a period on, by its parts: in one, orders cover the same weeks around
+    """Returns the coming year from a period on, by its parts: in one, orders cover the same weeks of a quarter and around
     Easter, each its own and those of a lead time more."""
     year = CALENDAR[every]["season"]
     parts = parts_of(every, first, year).tolist()
@@ -145,6 +146,9 @@ class InSeason:
     def remarks(self) -> Iterator[Remark]:
         """Yields what is to be said of it."""
         values, calendar = self.index.values, self.index.calendar
+        if calendar.quarter:
+            most, least = max(calendar.quarter), min(calendar.quarter)
+            yield Remark("quarter planned", {"most": most, "least": least})
         if calendar.easter:
             yield Remark("Easter planned", {"most": max(calendar.easter)})
         if max(values) == min(values):
@@ -227,7 +231,8 @@ class Seasons:
         counts = np.rint(np.array(item.counts) * mean / rates).astype(int)
         own = [item.counts[place] for place in known]
         counts[known] = without_rate(own, rates[known], random)
-        rate = max(index.calendar.easter, default=1.0)
+        calendar = index.calendar
+        rate = max(calendar.quarter, default=1.0) * max(calendar.easter, default=1.0)
         most = float(counts.max(initial=0)) * max(index.values) * rate / mean
         return replace(item, counts=tuple(counts.tolist()), coming=math.ceil(most))
 
@@ -269,8 +274,12 @@ def amounts_of(item: Item) -> Amounts:
 
 def calendar_of(items: Sequence[Item]) -> tuple[Calendar, HighWeeks]:
     """Returns what moves a class of weekly items beside its season, and the weeks that stand out otherwise."""
-    high = standing_out([*map(amounts_of, items)])
-    return Calendar(high.easter), high
+    amounts = [*map(amounts_of, items)]
+    calendar = Calendar(quarter_of(amounts))
+    for first, by_week in amounts:
+        by_week /= calendar.factors(first, len(by_week))
+    high = standing_out(amounts)
+    return calendar._replace(easter=high.easter), high
 
 
 def promotions_of(item: Item, weeks: Sequence[int]) -> set[int]:
