@@ -35,10 +35,11 @@ from crnplan.demand.checks import (
 )
 from crnplan.demand.learning import Prior
 from crnplan.errors import Refused
-from crnplan.plan.backtest.methods import Walk, Walked
+from crnplan.plan.backtest.methods import PLANNED, Walk, Way
 from crnplan.plan.backtest.estimates import squares
 from crnplan.plan.backtest.sums import SLACK
 from crnplan.plan.how import NONE, Settings
+from planner.studies.kept_plans import kept_walk
 from planner.studies.level_spread_tail import WALK, item_of, sets_of
 from planner.studies.page import markdown
 from planner.studies.real_series import Series
@@ -72,7 +73,10 @@ def cluster_of(kind: str, name: str) -> str:
 def broken(job: Job, fill: Fraction) -> bool:
     """Returns whether the plan of a record breaks its promise later. Raises Refused if there is no plan."""
     item = item_of(job.series, None, job.walk[0], fill)
-    kept = Walked(item, Settings(), Prior(NONE), Walk(*job.walk)).kept()
+    ways = {PLANNED: Way(Settings(), Prior(NONE))}
+    walked = kept_walk(item, Walk(*job.walk), ways)
+    plan = walked.planned[0].figures
+    kept = walked.happened.of_figures([plan] * walked.happened.later)
     return kept.fill is not None and (kept.promised_fill or 0) - kept.fill > SLACK
 
 

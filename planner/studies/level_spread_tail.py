@@ -11,7 +11,7 @@ that of `auto` at a time:
 - `normal`: a rounded normal law with the mean and the deviation of what was seen, in place of the tail;
 - `level, spread`: both of these; `all`: the normal law with both, which is what the rule of thumb believes.
 
-Beside them is that rule (`crnplan.plan.backtest.smoothing`) with s and S that stay until the next fit (`rule, held`),
+Beside them is that rule (`crnplan.plan.backtest.rules`) with s and S that stay until the next fit (`rule, held`),
 and with new ones in each period (`rule`). Costs are those of the later periods, in units of an item's own mean demand,
 so that all items weigh alike, and beside those of `auto`. Errors are those of clusters of items and of blocks of periods
 (`crnplan.plan.backtest.sums`). Made series are those of `walk_forward`, with fixed seeds; the real ones need R. Of each
@@ -37,12 +37,9 @@ from crnplan.demand.fitted import FittedLaw
 from crnplan.demand.learning import Prior
 from crnplan.errors import Refused
 from crnplan.law import Law
-from crnplan.plan.backtest.methods import Walk, Walked, chosen
-from crnplan.plan.backtest.smoothing import (
-    smoothed,
-    smoothed_levels,
-    wanted_share,
-)
+from crnplan.plan.backtest.methods import PLANNED, Walk, Walked, Way, chosen
+from crnplan.demand.level import smoothed
+from crnplan.plan.backtest.rules import Forecast, normal_levels, wanted_share
 from crnplan.plan.backtest.estimates import Ratio
 from crnplan.plan.backtest.sums import BLOCK
 from crnplan.plan.how import NONE, Settings
@@ -168,15 +165,14 @@ def levels_of(walked: Walked) -> dict[str, list[Levels]]:
     """Returns s and S of each period by the law or the rule; in the record those of the first plan. Raises Refused if
     there is no first plan by some law."""
     counts, question = walked.item.counts, walked.question
-    forecasts, rule = [*smoothed(counts)], [
-        *smoothed_levels(walked.item, wanted_share(walked.item), counts, LEAD, 0.0)
-    ]
+    forecasts, share = [*smoothed(counts)], [wanted_share(walked.item)]
+    rule = list[Levels]()
+    for known in forecasts:
+        rule += normal_levels(walked.item, share, Forecast(*known), LEAD, 0.0)
     levels: dict[str, list[Levels]] = {name: [] for name in (*LAWS, RULES[0])}
     for start, origin, end in walked.walk.stretches(len(counts)):
         with contextlib.suppress(Refused):
-            question = question_of(
-                walked.item.part(start, origin), Settings(), walked.prior
-            )
+            question = question_of(walked.item.part(start, origin), Settings())
         ratios = ratios_of(counts[start:origin], forecasts[origin])
         for name, own in levels.items():
             plan = (
@@ -200,7 +196,7 @@ def later_of(job: tuple[Series, int, tuple[int, int, int]]) -> dict[str, Later]:
     series, backlog, walk = job
     item = item_of(series, backlog, walk[0])
     try:
-        walked = Walked(item, Settings(), Prior(NONE), Walk(*walk))
+        walked = Walked(item, Walk(*walk), {PLANNED: Way(Settings(), Prior(NONE))})
         levels = levels_of(walked)
     except Refused:
         return {}

@@ -46,7 +46,7 @@ from crnplan.demand.level import (
     factor_of,
     weight_of,
 )
-from crnplan.plan.backtest.smoothing import smoothed_levels
+from crnplan.plan.backtest.rules import normal_levels, smoothed_last
 from crnplan.plan.how import ALL, Settings
 from crnplan.plan.question import Levels, Question, question_of
 from crnplan.read.item import Item
@@ -119,12 +119,9 @@ def by_price(asked: Question, prices: Sequence[float] = PRICES) -> list[Levels]:
 
 def by_smoothing(asked: Question) -> list[Levels]:
     """Returns what the rule of thumb has for each fill rate after the last period."""
-    policies = list[Levels]()
-    for fill in NOMINAL:
-        counts = [*asked.item.counts, 0]
-        *_, last = smoothed_levels(asked.item, fill, counts, LEAD, 0)
-        policies.append((max(1, last[0]), last[1]))
-    return policies
+    forecast = smoothed_last(asked.item.counts)
+    levels = normal_levels(asked.item, NOMINAL, forecast, LEAD, 0)
+    return [(max(1, s), S) for s, S in levels]
 
 
 def damped(counts: Sequence[int]) -> float:

@@ -16,9 +16,10 @@ from collections.abc import Callable, Sequence
 from typing import NamedTuple
 
 import numpy as np
-from scipy.special import gammaln, ndtr
+from scipy.special import gammaln
 
 from crnplan.chances import Floats, Whole
+from crnplan.plan.backtest.rules import safety_factors
 from planner.studies.fair import BEFORE, COVER
 
 YEAR = 52
@@ -108,18 +109,8 @@ def pairs_of(points: Floats, quantity: float) -> Whole:
 def by_normal(coming: Coming) -> Whole:
     """Returns s and S for each aim: what a cycle leaves unmet is a share of its quantity."""
     deviation = np.sqrt(coming.variance)
-    orders, unmet = coming.quantity / deviation, 1 - np.array(AIMS)
-    low, high = np.full(len(AIMS), -9.0), np.full(len(AIMS), 9.0)
-
-    def loss(safety: Floats) -> Floats:
-        density = np.exp(-(safety**2) / 2) / np.sqrt(2 * np.pi)
-        return np.asarray(density - safety * ndtr(-safety))
-
-    for _ in range(40):
-        middle = (low + high) / 2
-        is_short = loss(middle) - loss(middle + orders) > unmet * orders
-        low, high = np.where(is_short, middle, low), np.where(is_short, high, middle)
-    return pairs_of(coming.mean + low * deviation, coming.quantity)
+    factors = safety_factors(AIMS, coming.quantity / deviation)
+    return pairs_of(coming.mean + factors * deviation, coming.quantity)
 
 
 def by_sums(whole: Floats, part: Floats, coming: Coming) -> Whole:

@@ -4,7 +4,7 @@
     python -m planner.studies.walk_forward --small                           a small part, in some seconds
 
 The real series are those of `real_series.py`: it needs packages of R, and refuses to go on without them. Each series is
-an item of a catalogue that `crnplan.backtest` tests. An order comes after 2 periods and costs what is best for two
+an item of a catalogue, which `kept_plans.py` runs. An order comes after 2 periods and costs what is best for two
 periods of demand. Four goals: fill rates of 95% and 98%, and backlog costs of 9 and 49 times holding. Of long sets
 every fifth series is taken, in the order of the package.
 
@@ -33,12 +33,11 @@ import click
 import numpy as np
 import pandas as pd
 
-import crnplan
-from crnplan.backtesting import Backtests
 from crnplan.plan.backtest.one import Backtest
 from crnplan.plan.backtest.estimates import Estimate
-from crnplan.plan.backtest.sums import SLACK, VERDICTS, Sums
-from crnplan.read.defaults import KEEP
+from crnplan.plan.backtest.methods import Walk
+from crnplan.plan.backtest.sums import SLACK
+from planner.studies.kept_plans import VERDICTS, Kept, KeptSums, each_kept
 from planner.studies.page import markdown
 from planner.studies.real_series import Series, real_series
 
@@ -108,15 +107,10 @@ def tested(
     series: Sequence[Series],
     goal: dict[str, float],
     walk: tuple[int, int, int] = (52, 13, 52),
-    jobs: int = 1,
-) -> Backtests:
+) -> list[Kept]:
     """Returns the tests of series on their past."""
-    record, every, window = walk
-    sales, masters = tables_of(series, goal, record)
-    catalogue = crnplan.read_catalogue(sales, masters, far=KEEP)
-    return crnplan.backtest(
-        catalogue, record=record, every=every, window=window, jobs=jobs
-    )
+    sales, masters = tables_of(series, goal, walk[0])
+    return [*each_kept(sales, masters, Walk(*walk))]
 
 
 def figures(estimates: Mapping[str, Estimate]) -> dict[str, float]:
@@ -128,30 +122,30 @@ def figures(estimates: Mapping[str, Estimate]) -> dict[str, float]:
     }
 
 
-def row_of(sums: Sums) -> dict[str, float | str]:
+def row_of(known: KeptSums) -> dict[str, float | str]:
     """Returns the figures of all items of a set, in percent."""
+    sums, parts, above = known
+    names = {"planned": "kept", "followed": "refitted", "smoothed": "smoothed"}
     fills = {
-        policy: replace(unmet, value=1 - unmet.value)
-        for policy, unmet in sums.unmet.items()
-        if policy != "today"
+        name: replace(sums.unmet[code], value=1 - sums.unmet[code].value)
+        for code, name in names.items()
     }
-    parts = {
-        "missed": sums.missed,
-        "shuffled": sums.chance,
-        "time": sums.time,
+    figured = {
+        "missed": parts.missed,
+        "shuffled": parts.chance,
+        "time": parts.time,
         "dearer": sums.dearer,
-        **{
-            f"cost_{policy}": sums.beside[policy] for policy in ("refitted", "smoothed")
-        },
+        "cost_refitted": sums.beside["followed"],
+        "cost_smoothed": sums.beside["smoothed"],
     }
     return {
         "items": sums.items,
         "promised": 100 * sums.promised,
         **figures(fills),
-        **figures(parts),
+        **figures(figured),
         "broken": 100 * sums.broken / sums.items,
-        "above": 100 * sums.above / sums.items,
-        "verdict": sums.verdict.code,
+        "above": 100 * above / sums.items,
+        "verdict": known.verdict,
     }
 
 
@@ -162,23 +156,21 @@ def halves(tests: Iterable[Backtest]) -> tuple[list[bool], list[bool]]:
     for test in tests:
         middle = len(test.demands) // 2
         parts = [
-            (test.demands[part], test.kept.unmet[part])
+            (test.demands[part], test.planned.unmet[part])
             for part in (slice(middle), slice(middle, None))
         ]
         if all(sum(asked) for asked, _ in parts):
             for half, (asked, unmet) in zip(missed, parts):
                 half.append(
-                    (test.kept.promised_fill or 0) - 1 + sum(unmet) / sum(asked) > SLACK
+                    (test.planned.promised_fill or 0) - 1 + sum(unmet) / sum(asked)
+                    > SLACK
                 )
     return missed
 
 
-def single_row(tests: Backtests) -> dict[str, float]:
+def single_row(tests: Iterable[Kept]) -> dict[str, float]:
     """Returns how often items miss their promise again, and for the first time, in percent."""
-    first, second = map(
-        np.array,
-        halves(test for _, test in tests.tested.items if isinstance(test, Backtest)),
-    )
+    first, second = map(np.array, halves(one.test for one in tests))
     row: dict[str, float] = {}
     for name, chosen in (("again", first), ("first", ~first)):
         count, share = (
@@ -193,19 +185,24 @@ def single_row(tests: Backtests) -> dict[str, float]:
     return row
 
 
+def set_rows(job: tuple[str, str]) -> tuple[dict[str, Any], dict[str, Any]]:
+    """Returns the rows of a set and a goal: of all items, and of single ones."""
+    name, goal = job
+    series = real_series()[name]
+    taken = series[::STRIDE] if len(series) > MANY else series
+    tests = tested(taken, GOALS[goal], WALKS.get(name, (52, 13, 52)))
+    keys = {"set": name, "goal": goal}
+    return {**keys, **row_of(KeptSums.of(tests))}, {**keys, **single_row(tests)}
+
+
 def real_study(
     jobs: int, only: Sequence[str] = ()
 ) -> tuple[pd.DataFrame, pd.DataFrame]:
     """Returns for each set and goal the figures of all items, and what is known of single ones."""
-    rows: list[dict[str, float | str]] = []
-    single: list[dict[str, float | str]] = []
-    for name, series in real_series().items():
-        taken = series[::STRIDE] if len(series) > MANY else series
-        for goal, words in GOALS.items() if name in (only or SETS) else ():
-            tests = tested(taken, words, WALKS.get(name, (52, 13, 52)), jobs)
-            if tests.tested.sums:
-                rows.append({"set": name, "goal": goal, **row_of(tests.tested.sums[0])})
-                single.append({"set": name, "goal": goal, **single_row(tests)})
+    there = [name for name in real_series() if name in (only or SETS)]
+    work = [(name, goal) for name in there for goal in GOALS]
+    with ProcessPoolExecutor(jobs) as pool:
+        rows, single = zip(*pool.map(set_rows, work))
     return pd.DataFrame(rows), pd.DataFrame(single)
 
 
@@ -253,7 +250,7 @@ def made_verdict(
         Series(f"{kind} {number} {place}", tuple(MADE[kind](random, periods).tolist()))
         for place in range(items)
     ]
-    return tested(series, GOALS[MADE_GOAL]).tested.sums[0].verdict.code
+    return KeptSums.of(tested(series, GOALS[MADE_GOAL])).verdict
 
 
 def made_study(jobs: int, catalogues: Mapping[str, int]) -> pd.DataFrame:

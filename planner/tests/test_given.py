@@ -44,7 +44,7 @@ def test_tests_on_the_past_share_them() -> None:
     words: dict[str, Any] = {"record": 30, "jobs": 1}
     alone = crn.backtest(SALES, MASTERS, fit="empirical", season="none", **words)
     tests = crn.backtest(SALES, MASTERS, settings=settings, reading=reading, **words)
-    assert tests == alone and tests.tested.walk.window == 52
+    assert tests == alone and tests.tested.walk.window is None
     other = crn.backtest(SALES, MASTERS, window=26, settings=settings, **words)
     assert other.tested.walk.window == 26
     with pytest.raises(Refused, match="every is said by itself and in reading"):

@@ -46,7 +46,7 @@ class Backtests(Result):
 
     tested: Tested = field(repr=False)
     brief: ClassVar = (
-        "item class periods promised_fill_kept fill_kept stock_kept cost_kept left_out"
+        "item class periods promised_fill_planned fill_planned stock_planned cost_planned left_out"
     ).split()
 
     @property
@@ -71,13 +71,13 @@ class Backtests(Result):
 
     @property
     def verdict(self) -> str:
-        """Returns what breaks the promised fill of the catalogue, in words."""
+        """Returns whether the promised fill of the catalogue was met, in words."""
         sums = self.tested.whole
         return past_said(sums.verdict) if sums else first_line(sums)
 
     @property
     def gains(self) -> str:
-        """Returns which methods gained beside the kept plan, and how much, in words, or that none did."""
+        """Returns which ways need less than the plan beyond their errors, in words, or that none does."""
         sums = self.tested.whole
         return gains_said(sums.gains) if sums else first_line(sums)
 
@@ -87,7 +87,7 @@ class Backtests(Result):
         return f"{first_line(self.tested.whole)}\n{backtest_summary(self.tested)}"
 
     def plot(self) -> Picture:
-        """Draws what each method met at once by its stock.
+        """Draws what each way met at once by its stock.
 
         Raises
         ------
@@ -126,7 +126,7 @@ def backtest(
     *,
     record: int = 52,
     every: int = 13,
-    window: int = 52,
+    window: int | None = None,
     reading: Reading | None = None,
     settings: Settings | None = None,
     out_of_stock: Table | None = None,
@@ -139,21 +139,19 @@ def backtest(
 ) -> Backtests:
     """Tests plans on a catalogue's own past: what they would have promised, and what came.
 
-    Each item is planned from its first `record` periods, as `plan` does it, and the plan is run on the periods that came. No
-    crnsim is needed. These methods are run:
+    At the service that was promised, how much stock and how many orders would each whole way of planning have needed? Each
+    item is planned from its first `record` periods, and anew after each `every` periods from all until then, and the plans
+    are run on the periods that came. No crnsim is needed. These ways are run:
 
-    - the plan as it was (kept), and refitted after each `every` periods on the last `window`
-    - today's policy
-    - the plan that aims as `correct` makes it from the records alone
-    - that by one price of what is not met for each class of 10 items, as `together`. A class meets together what its items
-      want in the mean by value. Items without a price are planned by themselves. Its gain is that of items that weigh alike
-    - that by a season, if the records show one (a record of two years or more)
-    - refitted plans at the level of the last periods, if classes follow it by their records, as `follow`
-    - a rule of thumb: exponential smoothing with a normal safety stock
+    - the plan as `plan` makes it with the same words: with its season, its level, and one price for what is not met
+    - the same with each item alike, without a season, and with the level of the last periods or of the record
+    - today's levels
+    - rules of thumb: the mean or exponential smoothing with a normal safety stock, and periods of cover
 
-    Each is run at aims above and below its own too, so that stocks are compared where as much is met at once. The kept plan
-    is also run with all periods of the item in a random order, which takes time out of them. Lead times of the past are drawn
-    from the item's own law. Random numbers follow from the `seed` and the item's name.
+    Which classes have a season, and how far they follow their level, is learned from all periods; all else from those
+    before. Each way is run at aims above and below its own too, so that stocks are compared where as much is met at once. Lead
+    times of the past are drawn from the item's own law. Random numbers follow from
+    the `seed` and the item's name.
 
     Parameters
     ----------
@@ -166,9 +164,9 @@ def backtest(
     record : int, at least 1, default 52
         The periods from which the first plan is made. An item with fewer than `record` and `every` periods is left out.
     every : int, at least 1, default 13
-        The periods from one refitted plan to the next.
-    window : int, at least 1, default 52
-        The last periods on which refitted plans are fitted.
+        The periods from one plan to the next.
+    window : int, at least 1, optional
+        Plans are made of so many last periods; by default of all until then.
     reading : Reading, optional
         Words of reading that several calls share. A word is said there or by itself.
     settings : Settings, optional
@@ -191,7 +189,7 @@ def backtest(
     Returns
     -------
     Backtests
-        `verdict` says what breaks the promises, `gains` which methods gained, `sums` has all items and each class with
+        `verdict` says whether the promise was met, `gains` which ways need less, `sums` has all items and each class with
         standard errors, and `frame` a row for each item.
 
     Raises

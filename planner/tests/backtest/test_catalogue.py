@@ -16,12 +16,10 @@ import crnplan as package
 from crnplan.demand.learning import Prior
 from crnplan.store.files import own_folder
 from crnplan.show.backtest_tables import BACKTEST_COLUMNS, SUM_COLUMNS
-from crnplan.show.verdicts import PAST
 from crnplan.plan.backtest.catalogue import TESTS
 from crnplan.plan.backtest.lessons import Records
-from crnplan.plan.backtest.methods import Walk
+from crnplan.plan.backtest.methods import PLANNED, Walk, Way
 from crnplan.plan.backtest.one import Backtest, backtest_one
-from crnplan.plan.backtest.sums import TIME
 from crnplan.plan.how import NONE, Settings
 from crnplan.read.catalogue_reading import CATALOGUE, READ
 from crnplan.read.item import Item
@@ -36,14 +34,12 @@ WALK: dict[str, Any] = {"record": 40, "every": 10, "window": 30, "jobs": 1}
 FILES = "backtest.csv", "backtest_sums.csv", "backtest.txt", "backtest.html"
 
 
-def write(folder: Path, items: Mapping[str, Item], later: int = 1) -> list[Path]:
-    """Writes the two tables of items into a folder, with so many times the demand from week 40 on. Item I-013 comes in
-    week 30."""
+def write(folder: Path, items: Mapping[str, Item]) -> list[Path]:
+    """Writes the two tables of items into a folder. Item I-013 comes in week 30."""
     folder.mkdir(parents=True, exist_ok=True)
     written = list[Item]()
     for item in items.values():
         counts = np.array(item.counts)
-        counts[40:] *= later
         counts[: 30 if item.name == "I-013" else 0] = 0
         written.append(dataclasses.replace(item, counts=tuple(counts.tolist())))
     paths = [folder / "demand.csv", folder / "items.csv"]
@@ -109,8 +105,8 @@ def test_rows_are_those_of_each_item(made: Path, items: Mapping[str, Item]) -> N
     assert rows["I-013"]["left_out"] == said
     own, walk = Settings(borrow=NONE, every="week"), Walk(40, 10, 30)
     for name in ("I-002", "I-003"):
-        test = backtest_one(items[name], own, Prior(NONE), walk)
-        for policy in ("today", "kept", "refitted", "smoothed", "shuffled"):
+        test = backtest_one(items[name], walk, {PLANNED: Way(own, Prior(NONE))})
+        for policy in ("today", "planned", "averaged", "smoothed", "cover"):
             outcome = getattr(test, policy)
             cost, fill, stock = (
                 float(rows[name][f"{it}_{policy}"]) for it in ("cost", "fill", "stock")
@@ -140,14 +136,15 @@ def test_values_of_a_notebook(room: Path) -> None:
     assert tests.page == (room / "out/backtest.html").read_text("utf-8")
     assert [*tests.sums] == [column.name for column in SUM_COLUMNS]
     assert tests.sums["class"].tolist() == ["", "a", "b"]
-    assert tests.verdict in PAST.values()
+    assert tests.verdict in tests.text
     assert f"\n  {tests.gains}\n" in tests.text
 
 
 def check_sides(table: list[list[str]], written: Mapping[str, str]) -> None:
-    """Checks that methods stand side by side as in the table of sums."""
+    """Checks that ways stand side by side as in the table of sums."""
     names = {"today's": "today"}
-    assert [row[0] for row in table[1:]] == ["today's", "kept", "refitted", "smoothed"]
+    ways = ["today's", "planned", "averaged", "smoothed", "cover"]
+    assert [row[0] for row in table[1:]] == ways
     columns = "stock_{}", "cost_{}", "equal_stock_{}", "equal_spent_{}"
     for row in table[1:]:
         code = names.get(row[0], row[0])
@@ -157,7 +154,7 @@ def check_sides(table: list[list[str]], written: Mapping[str, str]) -> None:
             float(written[f"orders_{code}"]), abs=6e-4
         )
         for cell, column in zip((row[2], row[3], row[6], row[7]), columns):
-            if code == "kept":
+            if code == "planned":
                 assert cell == "-"
                 continue
             value, _, error = cell.partition("%")[0].partition(" ± ")
@@ -181,30 +178,24 @@ def test_page(made: Path) -> None:
     for row in sums[1:]:
         own = written[row[0].replace("all", "")]
         assert [row[1], *row[3:5]] == [own["verdict"], own["items"], own["broken"]]
-        shares = [100 * float(own[name]) for name in ("promised_fill", "fill_kept")]
+        shares = [100 * float(own[name]) for name in ("promised_fill", "fill_planned")]
         shown = [float(cell.partition(" ± ")[0].rstrip("%")) for cell in row[5:7]]
         assert shown == pytest.approx(shares, abs=0.06)
         assert float(row[7].partition(" ± ")[0]) == pytest.approx(
             -100 * float(own["drift"]), abs=0.06
         )
-    check_sides(page.tables["Methods side by side"], written[""])
+    check_sides(page.tables["Ways side by side"], written[""])
     worst = page.tables["The items that missed most"][1:]
     assert worst
     assert {row[0] for row in worst} <= {
         name for name, row in rows.items() if not row["left_out"]
     }
-    assert worst[0][1] == f"{float(rows[worst[0][0]]['promised_fill_kept']):.1%}"
-
-
-def test_level_shift_is_seen(items: Mapping[str, Item], tmp_path: Path) -> None:
-    """Demand that doubles after the record breaks promises, by time."""
-    tests = package.backtest(*write(tmp_path, items, later=2), **WALK)
-    assert tests.verdict == PAST[TIME]
+    assert worst[0][1] == f"{float(rows[worst[0][0]]['promised_fill_planned']):.1%}"
 
 
 def test_no_item_in_sums(items: Mapping[str, Item], tmp_path: Path) -> None:
-    """An item of which all demand is in the record has a test, but none in a random order that puts it all after it.
-    Nobody has asked for the other one, which has none either."""
+    """An item of which all demand is in the record has a test, but is in no sum, as nobody asked for it later. Nobody has
+    asked for the other one at all."""
     ended = dataclasses.replace(
         items["I-000"], counts=(0, 9, 0, 0, 9) + (0,) * 495, returns=()
     )
@@ -227,8 +218,7 @@ def test_no_item_in_sums(items: Mapping[str, Item], tmp_path: Path) -> None:
     )
     row, _ = csv.DictReader(tests.table.csv.splitlines())
     assert row["item"] == "I-000"
-    assert float(row["cost_kept"]) > 0
-    assert row["fill_shuffled"] == row["cost_shuffled"] == ""
+    assert float(row["cost_planned"]) > 0
     assert "No item has a test" in tests.page
     assert "Met at once, by stock" not in tests.page
 
@@ -273,7 +263,7 @@ def test_line_on_the_page_of_the_plan(
     crnplan("backtest", out, *WORDS, "--jobs", 1)
     crnplan("report", out)
     line = (out / "backtest.txt").read_text("utf-8").splitlines()[0]
-    assert line.startswith("On your own past a promised ")
+    assert line.startswith("On your own past the plan met ")
     assert line in Page(out / name).words
     again = (out / name).read_bytes()
     crnplan(*plan, "--config", tmp_path / "crnplan.toml")

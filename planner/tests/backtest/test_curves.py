@@ -11,7 +11,6 @@ import pytest
 from crnplan.plan.backtest.curves import Curve
 from crnplan.plan.backtest.one import Backtest
 from crnplan.plan.backtest.sums import Sums, moves_of, sums_of
-from crnplan.show.verdicts import gains_said
 from planner.tests.backtest.test_sums import DEMAND, PERIODS, made, outcome
 
 # What three aims leave unmet, and their stock.
@@ -86,116 +85,66 @@ def traced(
 
 
 def catalogue(
-    ratio: float, seed: int, own: int = 1, kept: int = 1, items: int = 40
+    ratio: float, seed: int, own: int = 1, planned: int = 1, items: int = 40
 ) -> list[Backtest]:
-    """Returns tests of items whose smoothing needs a multiple of the kept plan's stock. Both have an aim by themselves."""
+    """Returns tests of items whose smoothing needs a multiple of the plan's stock. Both have an aim by themselves."""
     random, tests = np.random.default_rng(seed), list[Backtest]()
     for place in range(items):
         level = random.uniform(0.5, 2)
-        plan = traced(random, level, 1, kept)
-        facts = {"kept": plan, "refitted": plan, "today": None}
+        plan = traced(random, level, 1, planned)
+        facts = dict.fromkeys(("today", "averaged", "cover"))
         other = traced(random, level, ratio, own)
-        tests.append(made(plan.unmet, plan.unmet, place, smoothed=other, **facts))
+        tests.append(made(plan.unmet, place, planned=plan, smoothed=other, **facts))
     return tests
 
 
+@pytest.mark.parametrize("own", [0, 1, 2])
+@pytest.mark.parametrize("planned", [0, 1, 2])
 @pytest.mark.parametrize(
-    "ratio, own, kept, gains",
-    [
-        (0.7, 1, 1, ["smoothed"]),
-        (0.7, 2, 2, ["smoothed"]),
-        (1.0, 2, 1, ["smoothed"]),
-        (1.0, 1, 2, []),
-        (1.0, 1, 1, []),
-        (1.5, 2, 1, []),
-        (1.5, 1, 1, []),
-    ],
-    ids=[
-        "cheaper where missed",
-        "cheaper where held",
-        "lifted at no cost",
-        "less met",
-        "the same",
-        "lifted by stock alone",
-        "dearer",
-    ],
+    "ratio, gains, losses",
+    [(0.7, ["smoothed"], []), (1.0, [], []), (1.5, [], ["smoothed"])],
+    ids=["cheaper", "the same", "dearer"],
 )
-def test_gains_of_planted_methods(
-    ratio: float, own: int, kept: int, gains: list[str]
+def test_what_planted_ways_need(
+    ratio: float, gains: list[str], losses: list[str], own: int, planned: int
 ) -> None:
-    """With 5% promised unmet, a method gains if its stock and orders cost less where both meet that, or if it meets more
-    where 10% were unmet, and they do not cost more then. Meeting more by more stock alone gains nothing.
-    """
-    sums = Sums.of("", catalogue(ratio, 7, own, kept, 160))
-    assert sums.is_missed is (kept == 1)
+    """A way needs less if its stock and orders cost less where both meet as much at once, whatever both meet by
+    themselves: meeting more by more stock alone gains nothing."""
+    sums = Sums.of("", catalogue(ratio, 7, own, planned, 160))
     assert [gain.code for gain in sums.gains] == gains
-    assert sums.best == (gains[0] if gains else None)
-    assert Sums.of("", catalogue(ratio, 7, own, kept, 9)).gains == []
+    assert [loss.code for loss in sums.losses] == losses
 
 
 def test_gain_by_hand() -> None:
-    """The facts of a gain are points, and percent of what stock and orders cost: of 2 times 15 and 10 times 0.5, a
-    smaller stock by 6 is 12 in 35."""
+    """The facts of a gain are percent of what stock and orders cost: of 2 times 15 and 10 times 0.5, a smaller stock by 6
+    is 12 in 35."""
     rows = {"unmet_by_aim": ((1,) * PERIODS, (0,) * PERIODS)}
     half = (0, 1) * (PERIODS // 2)
-    kept = outcome(half, **rows, stocks_by_aim=((15,) * PERIODS,) * 2)
+    plan = outcome(half, **rows, stocks_by_aim=((15,) * PERIODS,) * 2)
     other = outcome([0] * PERIODS, **rows, stocks_by_aim=((9,) * PERIODS,) * 2)
-    facts: dict[str, Any] = {"kept": kept, "smoothed": other, "today": None}
-    sums = Sums.of("", [made(half, half, it, **facts) for it in range(12)])
+    facts: dict[str, Any] = {"planned": plan, "smoothed": other, "today": None}
+    sums = Sums.of("", [made(half, it, **facts) for it in range(12)])
     (gain,) = sums.gains
-    points = {"points": 5.0, "spent": -100 * 12 / 35, "fill": 95.0}
-    assert {name: gain.facts[name] for name in points} == pytest.approx(points)
+    figures = {"stock": -40.0, "spent": -100 * 12 / 35, "fill": 95.0}
+    assert {name: gain.facts[name] for name in figures} == pytest.approx(figures)
 
 
-@pytest.mark.parametrize("stock, gains", [(8, 1), (10, 1), (11, 0)])
-def test_methods_that_never_meet_as_much(stock: int, gains: int) -> None:
-    """Smoothing that meets 20 points more at once than any aim of the kept plan has gained if it has no more stock."""
-    rows = {
-        name: ((unmet,) * PERIODS,) * 2
-        for name, unmet in (("kept", 3), ("smoothed", 1))
-    }
-    held, stocks = {"kept": 10, "smoothed": stock}, ((9,) * PERIODS,) * 2
-    known = dict[str, Any]()
-    for name, unmet in rows.items():
-        facts: dict[str, Any] = {"unmet_by_aim": unmet, "stocks_by_aim": stocks}
-        known[name] = outcome(unmet[0], stocks=(held[name],) * PERIODS, **facts)
-    plan = known["kept"]
-    facts = {"today": None, "refitted": plan, **known}
-    sums = Sums.of("", [made(plan.unmet, plan.unmet, it, **facts) for it in range(12)])
-    found = [
-        (gain.code, gain.facts["points"], gain.facts["fill"]) for gain in sums.gains
-    ]
-    assert found == [("smoothed", pytest.approx(20), None)] * gains
-    assert "smoothed" not in sums.equal
-    if gains:
-        said = gains_said(sums.gains)
-        assert (
-            said
-            == f"gained: smoothed (+20.0 ± 0.0 points met at once; stock {10 * stock - 100:+.1f} ± 0.0%)"
-        )
-
-
-def test_better_gains_come_first() -> None:
-    """If a promise was missed, methods that lift what was met come first; of these the cheapest."""
+def test_better_ways_come_first() -> None:
     random, tests = np.random.default_rng(2), list[Backtest]()
-    ratios = {
-        "kept": (1, 1),
-        "today": (0.5, 1),
-        "corrected": (1, 2),
-        "smoothed": (0.8, 2),
-    }
+    ratios = {"planned": 1.0, "today": 0.5, "averaged": 0.9, "smoothed": 0.7}
+    ratios |= {"cover": 1.5, "alike": 1.3}
     for place in range(300):
         level = random.uniform(0.5, 2)
-        ran = {name: traced(random, level, *own) for name, own in ratios.items()}
-        plan = ran["kept"]
-        tests.append(made(plan.unmet, plan.unmet, place, **ran, refitted=plan))
-    gains = Sums.of("", tests).gains
-    assert [gain.code for gain in gains] == ["smoothed", "corrected", "today"]
+        ran = {name: traced(random, level, own) for name, own in ratios.items()}
+        tests.append(made(ran["planned"].unmet, place, **ran))
+    sums = Sums.of("", tests)
+    assert [gain.code for gain in sums.gains] == ["today", "smoothed", "averaged"]
+    assert [loss.code for loss in sums.losses] == ["alike", "cover"]
 
 
 def test_false_gains_are_rare() -> None:
-    """Of catalogues with a method that needs as much stock, and meets as much, at most 7 in 100 are said to gain: 2.5
-    by less stock, as many by more that is met, and chance."""
+    """Of catalogues with a way that needs as much stock, and meets as much, at most 7 in 150 are said to need less: 2.5%,
+    and chance."""
     gained = sum(bool(Sums.of("", catalogue(1, seed)).gains) for seed in range(150))
     assert gained <= 10
 
@@ -205,12 +154,12 @@ def test_small_classes_by_hand() -> None:
     tests = list[Backtest]()
     for place in range(23):
         unmet = [1] * 28 + [3 if place < 12 else 1] * 24
-        tests.append(made(unmet, unmet, place, group="ab"[place // 12]))
+        tests.append(made(unmet, place, group="ab"[place // 12]))
     moves = moves_of(sums_of(tests))
     assert moves
     expected = {"classes": 2, "least": 30, "moved": 10, "whole": 20 * 12 / 23}
     assert moves.facts == pytest.approx(expected)
-    assert moves_of(sums_of(made([1] * 52, [1] * 52, it) for it in range(12))) is None
+    assert moves_of(sums_of(made([1] * 52, it) for it in range(12))) is None
 
 
 def test_error_of_equal_fill_is_that_of_repeated_catalogues() -> None:
@@ -224,20 +173,20 @@ def test_error_of_equal_fill_is_that_of_repeated_catalogues() -> None:
     assert np.mean(errors) == pytest.approx(np.std(values), rel=0.15)
 
 
-def beside(kept: Sequence[int], other: Sequence[int]) -> Any:
-    """Returns what smoothing comes to beside the kept plan, if the two aims of each leave so much unmet of a demand of
-    10, with stocks of 10 and 20, and of 30 and 60."""
+def beside(planned: Sequence[int], other: Sequence[int]) -> Any:
+    """Returns what smoothing comes to beside the plan, if the two aims of each leave so much unmet of a demand of 10, with
+    stocks of 10 and 20, and of 30 and 60."""
     known = dict[str, Any]()
-    for name, unmet, stock in (("kept", kept, 10), ("smoothed", other, 30)):
+    for name, unmet, stock in (("planned", planned, 10), ("smoothed", other, 30)):
         rows = tuple((each,) * PERIODS for each in unmet)
         stocks = (stock,) * PERIODS, (2 * stock,) * PERIODS
         known[name] = outcome(rows[0], unmet_by_aim=rows, stocks_by_aim=stocks)
-    tests = [made(known["kept"].unmet, [0] * PERIODS, it, **known) for it in range(12)]
+    tests = [made(known["planned"].unmet, it, **known) for it in range(12)]
     return Sums.of("", tests).equal.get("smoothed")
 
 
 @pytest.mark.parametrize(
-    "kept, other, fill, stock",
+    "planned, other, fill, stock",
     [
         ((1, 0), (1, 0), 0.95, 2.0),
         ((3, 1), (4, 2), 0.8, None),
@@ -247,14 +196,14 @@ def beside(kept: Sequence[int], other: Sequence[int]) -> Any:
     ids=["as promised", "as near as both get", "at two ends", "nothing in common"],
 )
 def test_methods_are_compared_where_both_get(
-    kept: Sequence[int],
+    planned: Sequence[int],
     other: Sequence[int],
     fill: float | None,
     stock: float | None,
 ) -> None:
-    """95% is promised. If a method gets to no more than 80% by its last aim, both are compared there; where the kept plan
+    """95% is promised. If a method gets to no more than 80% by its last aim, both are compared there; where the plan
     has its last aim and smoothing its first one, that is 20 beside 30."""
-    equal = beside(kept, other)
+    equal = beside(planned, other)
     assert (equal and equal.fill) == (fill and pytest.approx(fill))
     if stock:
         assert equal.stock.value == pytest.approx(stock)
@@ -262,19 +211,17 @@ def test_methods_are_compared_where_both_get(
 
 def test_methods_without_aims_are_not_compared() -> None:
     unmet = [2] * PERIODS
-    assert Sums.of("", [made(unmet, unmet, it) for it in range(12)]).equal == {}
+    assert Sums.of("", [made(unmet, it) for it in range(12)]).equal == {}
 
 
 def test_figures_side_by_side_by_hand() -> None:
-    """Smoothing meets 5 points more than the kept plan, with stock and orders half as many again."""
-    kept = outcome([2] * PERIODS, stocks=(4,) * PERIODS, orders=0.2)
+    """Smoothing has stock and orders half as many again as the plan."""
+    plan = outcome([2] * PERIODS, stocks=(4,) * PERIODS, orders=0.2)
     other = outcome([1, 2] * (PERIODS // 2), stocks=(6,) * PERIODS, orders=0.3)
-    rows = [2] * PERIODS
-    tests = [made(rows, rows, it, kept=kept, smoothed=other) for it in range(12)]
-    sums = Sums.of("", tests)
-    assert sums.gained["smoothed"].value == pytest.approx(0.05)
+    facts: dict[str, Any] = {"planned": plan, "smoothed": other}
+    sums = Sums.of("", [made([2] * PERIODS, it, **facts) for it in range(12)])
     assert sums.stock["smoothed"].value == pytest.approx(0.5)
-    assert sums.orders["kept"] == pytest.approx(0.2)
+    assert sums.orders["planned"] == pytest.approx(0.2)
     assert sums.orders["smoothed"] == pytest.approx(0.3)
     assert sums.drift and sums.drift.value == 0
 
@@ -282,9 +229,8 @@ def test_figures_side_by_side_by_hand() -> None:
 def test_drift_by_hand() -> None:
     """Of a demand of 10, 1 is unmet in the first seven blocks and 3 in the other six: 20 points more."""
     unmet = [1] * 28 + [3] * 24
-    tests = [made(unmet, unmet, place) for place in range(12)]
-    drift = Sums.of("", tests).drift
+    drift = Sums.of("", [made(unmet, place) for place in range(12)]).drift
     assert drift and drift.value == pytest.approx(0.2)
     silent = (DEMAND,) * 20 + (0,) * 32
-    tests = [made([0] * PERIODS, unmet, place, demands=silent) for place in range(12)]
+    tests = [made([0] * PERIODS, place, demands=silent) for place in range(12)]
     assert Sums.of("", tests).drift is None

@@ -12,11 +12,12 @@ import crnplan as crn
 from crnplan.demand.learning import Prior
 from crnplan.plan.backtest.methods import (
     FOLLOWED,
+    PLANNED,
+    STILL,
     Walk,
     Walked,
     Way,
-    followed_of,
-    refitted_of,
+    levelled,
 )
 from crnplan.plan.backtest.one import Backtest
 from crnplan.plan.choice import choice_of
@@ -53,35 +54,42 @@ def write(folder: Path, factor: float) -> list[Path]:
     return paths
 
 
+@pytest.mark.parametrize("follow, other", [("none", "followed"), ("auto", "still")])
 @pytest.mark.parametrize("factor", [2.0, 1.0])
-def test_catalogue(factor: float, tmp_path: Path) -> None:
-    """Items whose level has doubled are tested so, meet more than by the kept plan, and need less stock for as much;
-    those whose level stands still are not tested so."""
-    tests = crn.backtest(
-        *write(tmp_path, factor), record=78, every=4, window=78, jobs=1, **WAYS
-    )
+def test_catalogue(follow: str, other: str, factor: float, tmp_path: Path) -> None:
+    """A plan that does not follow the level is tested with it, and one that does without, if the level of items has doubled:
+    then following needs less stock for as much. If it stands still, there is no other way.
+    """
+    walk = {"record": 78, "every": 4, "jobs": 1}
+    tests = crn.backtest(*write(tmp_path, factor), **walk, **WAYS, follow=follow)
     every = [one for _, one in tests.tested.items if isinstance(one, Backtest)]
     assert len(every) == ITEMS
-    assert all((one.followed is not None) == (factor > 1) for one in every)
+    both = {"followed", "still"}
+    there = {code for code in both for one in every if getattr(one, code)}
+    assert there == ({other} if factor > 1 else set())
     whole = tests.tested.whole
     assert whole
     if factor > 1:
-        spent, gained = whole.spent("followed"), whole.gained["followed"]
-        assert spent and gained and spent.value < 0 < gained.low
+        spent = whole.equal[other].spent.value
+        assert spent < 0 if follow == "none" else spent > 0
 
 
 def test_levels_by_hand() -> None:
-    """Each refit has the levels of its law at the level of its periods; one of a short record those of the law."""
+    """Each plan has the levels of its law at the level of its periods; one of a short record those of the law. A plan that
+    follows has these without."""
     counts = shifted(np.random.default_rng(2), 2.0)[:110]
     item, walk = item_of(counts=tuple(counts), leads=(1,)), Walk(52, 20, 30)
+    plain = Way(SETTINGS, OWN)
     way = Way(dataclasses.replace(SETTINGS, following=FOLLOWING), OWN)
-    walked = Walked(item, SETTINGS, OWN, walk, {FOLLOWED: way})
-    run = followed_of(walked)
-    assert run and len(run.levels) == 110 and len(run.aims) == 5
+    walked = Walked(item, walk, {PLANNED: plain, FOLLOWED: way})
+    run = walked.run(levelled(walked, way))
+    assert len(run.levels) == 110 and len(run.aims) == 5
     for start, stop, end in ((0, 52, 72), (42, 72, 92), (62, 92, 110)):
         asked = question_of(item.part(start, stop), way.settings, OWN)
         assert asked.level
         assert {*run.levels[stop:end]} == {choice_of(asked).levels}
-    assert followed_of(Walked(item, SETTINGS, OWN, walk)) is None
-    short = Walked(item, SETTINGS, OWN, Walk(20, 20, 20), {FOLLOWED: way})
-    assert followed_of(short) == refitted_of(short)
+    moved = Walked(item, walk, {PLANNED: way, STILL: plain})
+    assert moved.run(moved.planned) == run
+    assert moved.run(levelled(moved, plain)) == walked.run(walked.planned) != run
+    short = Walked(item, Walk(20, 20, 20), {PLANNED: plain})
+    assert short.run(levelled(short, way)) == short.run(short.planned)

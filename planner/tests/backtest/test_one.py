@@ -14,8 +14,8 @@ from crnplan.errors import Refused
 from crnplan.plan.answer import Answer
 from crnplan.plan.aims import Aims, Tried
 from crnplan.plan.backtest.methods import (
-    CORRECTED,
-    PlanInUse,
+    ALIKE,
+    PLANNED,
     Walk,
     Walked,
     Way,
@@ -27,7 +27,6 @@ from crnplan.plan.backtest.one import (
     Backtest,
     backtest_item,
     backtest_one,
-    shuffled,
 )
 from crnplan.plan.one import plan_one
 from crnplan.plan.how import NONE, Settings
@@ -41,8 +40,13 @@ WALK = Walk(record=40, every=7, window=30)
 OWN = Prior(NONE)
 
 
+def ways_of(settings: Settings) -> dict[str, Way]:
+    """Returns the way of items that are planned by themselves."""
+    return {PLANNED: Way(settings, OWN)}
+
+
 def past_of(item: Item, walk: Walk = WALK) -> Backtest:
-    return backtest_one(item, alone(), OWN, walk)
+    return backtest_one(item, walk, ways_of(alone()))
 
 
 def planned(item: Item, program: Path) -> Answer:
@@ -50,8 +54,9 @@ def planned(item: Item, program: Path) -> Answer:
 
 
 def test_stretches_by_hand() -> None:
-    """Of 60 periods, plans are for 40 to 46, 47 to 53 and 54 to 59; each refit is of the last 30."""
+    """Of 60 periods, plans are for 40 to 46, 47 to 53 and 54 to 59; later ones are of the last 30, or of all before."""
     assert [*WALK.stretches(60)] == [(0, 40, 47), (17, 47, 54), (24, 54, 60)]
+    assert [*Walk(40, 7).stretches(60)] == [(0, 40, 47), (0, 47, 54), (0, 54, 60)]
 
 
 @pytest.mark.parametrize("field", ["record", "every", "window"])
@@ -65,10 +70,12 @@ def test_plan_is_that_of_its_record(place: int, program: Path) -> None:
     """Levels and promises are those of the plan of the item as it was, and today's those that it shows beside."""
     item = [*several(5)][place]
     answer, test = planned(item.part(0, WALK.record), program), past_of(item)
-    for policy, outcome in ((answer.chosen, test.kept), (answer.today, test.today)):
-        assert (policy.point, policy.level) == (outcome.point, outcome.level)
-        assert outcome.promised_cost == pytest.approx(policy.cost, rel=1e-12)
-        assert outcome.promised_fill == pytest.approx(policy.fill, rel=1e-12)
+    assert (test.planned.point, test.planned.level) == answer.chosen.levels
+    policy, outcome = answer.today, test.today
+    assert policy and outcome
+    assert (policy.point, policy.level) == (outcome.point, outcome.level)
+    assert outcome.promised_cost == pytest.approx(policy.cost, rel=1e-12)
+    assert outcome.promised_fill == pytest.approx(policy.fill, rel=1e-12)
 
 
 def test_no_policy_today() -> None:
@@ -79,16 +86,17 @@ def test_no_policy_today() -> None:
     )
 
 
-def test_refits_are_plans_of_their_windows(program: Path) -> None:
-    """The promise of refitted plans is the mean of theirs over the periods of each."""
-    item = item_of(3)
+@pytest.mark.parametrize("window", [30, None])
+def test_plans_are_of_the_periods_before(window: int | None, program: Path) -> None:
+    """The promise is the mean of those of the plans that would have been made, over the periods of each."""
+    item, walk = item_of(3), Walk(40, 7, window)
     plans = [
         (planned(item.part(start, origin), program).chosen, end - origin)
-        for start, origin, end in WALK.stretches(len(item.counts))
+        for start, origin, end in walk.stretches(len(item.counts))
     ]
     periods = sum(weight for _, weight in plans)
     assert len({policy.levels for policy, _ in plans}) > 1
-    refitted = past_of(item).refitted
+    refitted = past_of(item, walk).planned
     assert refitted.promised_cost == pytest.approx(
         sum(plan.cost * weight for plan, weight in plans) / periods
     )
@@ -103,8 +111,10 @@ def test_no_later_period_is_seen() -> None:
     other = dataclasses.replace(
         item, counts=(*item.counts[:41], *(9 * it + 5 for it in item.counts[41:]))
     )
-    for policy in ("today", "kept", "smoothed"):
-        first, second = (getattr(past_of(it), policy) for it in (item, other))
+    for policy in ("today", "planned", "averaged", "smoothed", "cover"):
+        first, second = (
+            getattr(past_of(it, Walk(40, 20)), policy) for it in (item, other)
+        )
         assert first.costs[0] == second.costs[0]
         assert (first.point, first.level, first.promised_cost) == (
             second.point,
@@ -118,8 +128,9 @@ def test_steady_item() -> None:
     """A steady demand of 6 with a lead time of 1 and no setup cost is met from 12 items: no stock is left, and nothing
     is owed. A period costs nothing."""
     item = item_of(counts=(6,) * 60, leads=(1,), setup=Fraction(0), levels=(12, 12))
-    test = backtest_one(item, Settings(fit="empirical", borrow=NONE), OWN, WALK)
-    for outcome in (test.today, test.kept, test.refitted, test.shuffled):
+    own = Settings(fit="empirical", borrow=NONE)
+    test = backtest_one(item, WALK, ways_of(own))
+    for outcome in (test.today, test.planned):
         assert outcome
         assert (
             outcome.cost,
@@ -135,7 +146,6 @@ def test_steady_item() -> None:
         3,
         0.5,
     )
-    assert test.above == 1
     assert test.mean == 6
 
 
@@ -148,41 +158,30 @@ def test_promise_holds_where_the_law_is_known() -> None:
         setup=Fraction(30),
     )
     walk = Walk(record=25_000, every=25_000)
-    walked = Walked(item, Settings(fit="empirical", borrow=NONE), OWN, walk)
-    kept, figures = walked.kept(), walked.plan
+    own = Settings(fit="empirical", borrow=NONE)
+    walked = Walked(item, walk, ways_of(own))
+    figures = walked.planned[0].figures
+    kept = walked.happened.traced(walked.run(walked.planned))
     assert kept.cost == pytest.approx(figures.cost, rel=0.01)
     assert kept.fill == pytest.approx(figures.fill, abs=0.003)
     assert kept.stock == pytest.approx(figures.stock, rel=0.01)
     assert kept.orders == pytest.approx(figures.orders, rel=0.01)
 
 
-def test_shuffled_has_the_same_periods() -> None:
-    """A random order keeps the demand of each period with what came back, and follows from the seed."""
-    item = item_of(4, returns=tuple(range(60)))
-    other = shuffled(item, 1)
-    assert sorted(zip(other.counts, other.returns)) == sorted(
-        zip(item.counts, item.returns)
-    )
-    assert other.counts != item.counts
-    assert other == shuffled(item, 1)
-    assert other != shuffled(item, 2)
-
-
 def test_no_test() -> None:
     """A record that is too short, and one without demand, are named."""
-    short = backtest_item(item_of(), alone(), OWN, Walk(record=52, every=13))
+    short = backtest_item(item_of(), Walk(record=52, every=13), ways_of(alone()))
     assert short == Remark(SHORT_RECORD, {"periods": 60, "needed": 65})
     silent = item_of(counts=(0,) * 50 + (1,) * 10)
-    assert isinstance(backtest_item(silent, alone(), OWN, WALK), Remark)
+    assert isinstance(backtest_item(silent, WALK, ways_of(alone())), Remark)
 
 
 def test_aims_are_the_least_levels_of_their_fill_rates() -> None:
     """By a Markov chain the levels of an aim meet its fill rate at once, and a level less does not. At the aim of the plan
     itself they are those of the plan."""
     settings, item = alone(fit="empirical"), item_of(fill=Fraction(9, 10))
-    plan = PlanInUse(
-        question_of(item, settings, OWN), Walked(item, settings, OWN, Walk(60)).plan, 1
-    )
+    (plan,) = Walked(item, Walk(59, 1), ways_of(settings)).planned
+    item = item.part(0, 59)
     rates = aims_about(0.9)
     assert rates == pytest.approx([0.5, 0.8, 0.9, 0.9 + 0.2 / 3, 0.99])
     for rate, (s, S) in zip(rates, plan.aims, strict=True):
@@ -200,7 +199,7 @@ def test_rates_have_ends() -> None:
 def test_today_moved_by_hand() -> None:
     """Demands of 2 and 6 in turn have a variance of 4, over three periods a deviation of the root of 12: 3.46."""
     item = item_of(counts=(2, 6) * 40, leads=(2,), levels=(5, 20))
-    run = today_of(Walked(item, alone(fit="empirical"), OWN, WALK))
+    run = today_of(Walked(item, WALK, ways_of(alone(fit="empirical"))))
     assert run
     assert [levels[0] for levels in run.aims] == [
         (0, 15),
@@ -213,27 +212,29 @@ def test_today_moved_by_hand() -> None:
 
 
 def test_corrected_plan_aims_as_the_catalogue(program: Path) -> None:
-    """The corrected plan is that of settings with the same aims, for an item with a wanted fill rate; for one without
-    it is the plain one."""
+    """The plan of a catalogue with aims is that of `plan_one` with the same."""
     met = (0.2, 0.15, 0.1, 0.05, 0.04, 0.03, 0.02, 0.01, 0.0)
     aims = Aims(1.0, (Tried(40, 2_000, met),) * 2)
     wanting = item_of(3, backlog=None, fill=Fraction(19, 20))
     settings = dataclasses.replace(alone(), correct=True, aims=aims)
-    ways = {CORRECTED: Way(settings, OWN)}
-    corrected = backtest_one(wanting, alone(), OWN, WALK, ways).corrected
+    test = backtest_one(wanting, WALK, ways_of(settings)).planned
     answer = plan_one(question_of(wanting.part(0, 40), settings, OWN), str(program))
-    assert corrected
-    assert (corrected.point, corrected.level) == answer.chosen.levels
-    assert corrected.promised_fill == pytest.approx(answer.chosen.fill)
-    assert answer.chosen.fill > 0.98 > (past_of(wanting).kept.promised_fill or 1)
-    test = backtest_one(item_of(3), alone(), OWN, WALK, ways)
-    assert test.corrected == test.kept
-    assert past_of(item_of(3)).corrected is None
+    assert (test.point, test.level) == answer.chosen.levels
+    assert answer.chosen.fill > 0.98 > (past_of(wanting).planned.promised_fill or 1)
+
+
+def test_items_with_a_goal_of_their_own() -> None:
+    """One that is planned by itself has the same plan alike, and no value by which its demand counts."""
+    item = item_of(3)
+    ways = ways_of(alone()) | {ALIKE: Way(alone(alike=True), OWN)}
+    test = backtest_one(item, WALK, ways)
+    assert test.alike == test.planned
+    assert test.value is None and past_of(item).alike is None
 
 
 def test_window_without_demand_keeps_the_plan() -> None:
     """If no plan can be made of a window, the last one is kept."""
     item = item_of(counts=(4, 0, 2, 6) * 10 + (0,) * 80)
     walk = Walk(record=40, every=40, window=40)
-    test = past_of(item, walk)
-    assert test.refitted == test.kept
+    assert past_of(item, walk).planned.changes == 0
+    assert past_of(item, Walk(40, 40)).planned.changes == 1

@@ -1,9 +1,10 @@
-"""Tests methods on made catalogues in which one of them must gain, or none."""
+"""Tests ways on made catalogues in which one of them must need more than the plan, or none."""
 from __future__ import annotations
 
 import contextlib
 import dataclasses
 import itertools
+from collections.abc import Iterator
 from fractions import Fraction
 from pathlib import Path
 from typing import Any
@@ -19,29 +20,20 @@ from crnplan.demand.learning import Prior
 from crnplan.demand.seasons import parts_of
 from crnplan.spelling import worded
 from crnplan.plan import together
-from crnplan.plan.backtest.catalogue import TESTS, methods_of
-from crnplan.plan.backtest.lessons import Learning, Records, wanted_shares
-from crnplan.plan.backtest.methods import (
-    SEASONAL,
-    TOGETHER,
-    Walk,
-    Walked,
-    Way,
-    planned_of,
-    seasonal_of,
-)
+from crnplan.plan.backtest.catalogue import TESTS
+from crnplan.plan.backtest.lessons import Learning, Records
+from crnplan.plan.backtest.methods import PLANNED, SEASONLESS, Walk, Walked, Way
 from crnplan.plan.backtest.one import Backtest, backtest_one
 from crnplan.plan.choice import choice_of
 from crnplan.plan.how import NONE, Settings
 from crnplan.plan.prices import REST
 from crnplan.plan.question import question_of
-from crnplan.plan.prices import Price, Prices
 from crnplan.plan.seasons import Seasons
-from crnplan.read.catalogue_reading import CATALOGUE, READ
+from crnplan.read.catalogue_reading import CATALOGUE, READ, Catalogued
 from crnplan.read.item import Item
 from crnplan.read.items import Reading
 from crnplan.remarks import Remark
-from crnplan.store.files import own_folder
+from crnplan.store.files import Folder, own_folder
 from crnplan.store.means import Means
 from crnplan.store.stored import Store
 from crnplan.sentences import sentence
@@ -65,19 +57,12 @@ def seasonal(random: np.random.Generator, place: int) -> list[int]:
     return random.poisson((20 + place) * wave).tolist()
 
 
-def shifted(random: np.random.Generator, place: int) -> list[int]:
-    """Draws demand of 104 weeks, which doubles after the record."""
-    means = np.full(104, 8.0 + place % 5)
-    means[52:] *= 2
-    return random.poisson(means).tolist()
-
-
 def flat(random: np.random.Generator, place: int) -> list[int]:
     return random.poisson(np.full(104, 8.0 + place % 5)).tolist()
 
 
 def write(folder: Path, draw: Any, every: str) -> list[Path]:
-    """Writes the two tables of items of a class that want 95%, and whose demand of a year has one value; of unequal ones
+    """Writes the two tables of items of a class, whose demand of a year has one value; of unequal ones
     each second costs a tenth as much to hold."""
     folder.mkdir(parents=True)
     random, rows, masters = np.random.default_rng(4), list[Any](), list[Any]()
@@ -89,42 +74,42 @@ def write(folder: Path, draw: Any, every: str) -> list[Path]:
         name, holding = f"I-{place:02}", 0.1 if draw is unequal and place % 2 else 1.0
         rows += [(name, *row) for row in zip(days, counts)]
         price = round(10_000 / sum(counts[:52]), 2)
-        masters.append((name, 20 * holding, holding, 0.95, f"1 {every}", price, "x"))
+        masters.append((name, 20 * holding, holding, f"1 {every}", price, "x"))
     paths = [folder / "demand.csv", folder / "items.csv"]
     headings = (
         "item,date,quantity",
-        f"item,setup,holding ({every}),fill,lead,price,class",
+        f"item,setup,holding ({every}),lead,price,class",
     )
     for path, heading, table in zip(paths, headings, (rows, masters)):
         pd.DataFrame(table, columns=heading.split(",")).to_csv(path, index=False)
     return paths
 
 
-WEEKLY: dict[str, Any] = {"record": 52, "every": 13, "window": 26}
-MONTHLY: dict[str, Any] = {"record": 36, "every": 6, "window": 24, "period": "month"}
+WEEKLY: dict[str, Any] = {"record": 52, "every": 13}
+MONTHLY: dict[str, Any] = {"record": 12, "every": 24, "period": "month"}
 KINDS: dict[str, tuple[Any, dict[str, Any], str | None]] = {
-    "unequal": (unequal, WEEKLY, "together"),
-    "seasonal": (seasonal, MONTHLY, "seasonal"),
-    "shifted": (shifted, WEEKLY | {"every": 4}, "refitted"),
+    "unequal": (unequal, WEEKLY, "alike"),
+    "seasonal": (seasonal, MONTHLY, "seasonless"),
     "flat": (flat, WEEKLY, None),
 }
 
 
 @pytest.mark.parametrize("kind", KINDS)
-def test_what_must_gain(kind: str, tmp_path: Path) -> None:
-    """On items that cost unlike to hold one price gains, on a season months, on a shift refits, and on flat demand nothing."""
-    draw, walk, best = KINDS[kind]
+def test_what_needs_more(kind: str, tmp_path: Path) -> None:
+    """Of items that cost unlike to hold each alike needs more than by one price, and with a season, seen for a year alone, plans
+    without need more; of flat demand neither does, and no way needs less.
+    """
+    draw, walk, other = KINDS[kind]
     paths = write(tmp_path / kind, draw, walk.get("period", "week"))
-    sums = crn.backtest(*paths, jobs=1, **walk, **WAYS).tested.whole
-    assert sums and sums.best == best
-    if kind == "flat":
-        assert sums.gains == []
+    sums = crn.backtest(*paths, jobs=1, fill="95%", **walk, **WAYS).tested.whole
+    assert sums and sums.gains == []
+    losses = {loss.code for loss in sums.losses} & {"alike", "seasonless"}
+    assert losses == ({other} if other else set())
 
 
 # An index of the first half of the year and of the second one, whose mean is 1.
 HALVES = (1.6,) * 13 + (0.4,) * 13
 SEASONS = Seasons("week", {"": Index(HALVES, 0.001, 1.0, 2)})
-PRICES = Prices({"": Price(0.9, 7.0, 0.9, 0.9, 1)})
 
 
 def test_levels_are_those_of_the_calendar() -> None:
@@ -135,13 +120,12 @@ def test_levels_are_those_of_the_calendar() -> None:
     item = item_of(counts=tuple(counts), unknown=unknown, first=first, leads=(1,))
     own = Settings(fit="empirical", borrow=NONE, every="week")
     settings = dataclasses.replace(own, seasons=SEASONS)
-    ways = {SEASONAL: Way(settings, OWN)}
-    walked = Walked(item, own, OWN, Walk(104, 13, 52), ways)
-    run, known = seasonal_of(walked), [
-        place for place in range(230) if place not in unknown
-    ]
+    ways, walk = {PLANNED: Way(settings, OWN)}, Walk(104, 230)
+    walked = Walked(item, walk, ways)
+    run = walked.run(walked.planned)
+    known = [place for place in range(230) if place not in unknown]
     question = question_of(item.part(0, known[104]), settings, OWN)
-    assert run and question.season and len(run.levels) == len(known)
+    assert question.season and len(run.levels) == len(known)
     days = {
         month: choice_of(question.during(month)).levels
         for month in question.season.year
@@ -155,17 +139,23 @@ def test_levels_are_those_of_the_calendar() -> None:
         assert levels == days[month]
     assert len({*run.levels[104:]}) > 2 and len(run.aims) == 5
     gaps = dataclasses.replace(item, unknown=(), counts=item.known.counts)
-    assert seasonal_of(Walked(gaps, own, OWN, Walk(104, 13, 52), ways)) != run
+    without = Walked(gaps, walk, ways)
+    assert without.run(without.planned) != run
 
 
-def test_items_without_a_season_are_kept() -> None:
-    """An item of another class has the kept plan, and none if no season was learned."""
-    item = item_of(3, counts=tuple(range(1, 131)), group="other")
+@pytest.mark.parametrize("group", ["", "other"])
+def test_plans_without_a_season(group: str) -> None:
+    """They are those of the flat law. An item of a class without a season has the same, and none has any if no season was
+    learned."""
+    item = item_of(3, counts=tuple(range(1, 131)), group=group)
     own, walk = Settings(fit="empirical", borrow=NONE, every="week"), Walk(104, 13, 52)
     settings = dataclasses.replace(own, seasons=SEASONS)
-    test = backtest_one(item, own, OWN, walk, {SEASONAL: Way(settings, OWN)})
-    assert test.seasonal == test.kept
-    assert backtest_one(item, own, OWN, walk).seasonal is None
+    flat = {PLANNED: Way(own, OWN)}
+    ways = {PLANNED: Way(settings, OWN), SEASONLESS: Way(own, OWN)}
+    test, plain = backtest_one(item, walk, ways), backtest_one(item, walk, flat)
+    assert test.seasonless == plain.planned
+    assert (test.planned == plain.planned) is (group == "other")
+    assert plain.seasonless is None
 
 
 def small(place: int, demands: tuple[int, ...], holding: int) -> Item:
@@ -204,120 +194,100 @@ def best_unmet(item: Item, price: float) -> float:
     return best[1]
 
 
+@contextlib.contextmanager
+def learning(folder: Folder, record: int, settings: Settings) -> Iterator[Learning]:
+    """Yields what the items in a folder learn by."""
+    path = folder.path / READ
+    with Catalogued(path) as whole, Records(path, record) as read, Store(
+        folder.store(TESTS), Backtest
+    ) as tests:
+        yield Learning(folder, tests, whole, read, settings, OWN, Means(1))
+
+
+ALONE = Settings(fit="empirical", borrow=NONE, every="week")
+
+
 def test_price_by_brute_force(tmp_path: Path) -> None:
-    """Items meet by value the share that they want in the mean by their records, and less with a price that is 2% lower:
-    of all policies of each, tried one by one. Later weeks count for nothing.
+    """Items meet by value the share that they want together by their records, and less with a price that is 2% lower: of
+    all policies of each, tried one by one. Later weeks count for nothing.
     """
     items = [small(place, SMALL[place % 3], 1 + place % 3) for place in range(12)]
     later = [
         dataclasses.replace(item, counts=item.counts[:26] + (9,) * 14) for item in items
     ]
+    settings = dataclasses.replace(ALONE, together={REST: 0.9})
     prices = list[float]()
     for name, own in (("one", items), ("two", later)):
         sales, masters = tables_of(own)
         masters["class"], masters["price"] = "", masters["holding"]
         with own_folder(tmp_path / name, CATALOGUE) as folder:
             take_tables(folder, sales, masters, None, None, Reading(every="week"), 1)
-            records = Records(folder.path / READ, 26)
-            with contextlib.closing(records), contextlib.closing(
-                Store(folder.store(TESTS), Backtest)
-            ) as tests:
-                settings = Settings(fit="empirical", borrow=NONE, every="week")
-                on = Learning(folder, tests, records, settings, OWN, Means(1))
-                way = on.together()
-        assert isinstance(way, Way) and way.settings.prices
-        assert way.settings.together == {REST: 0.9}
+            with learning(folder, 26, settings) as on:
+                way = on.priced(Way(settings, OWN))
+        assert way.settings.prices
         prices.append(way.settings.prices.groups[REST].price)
     assert prices[0] == prices[1]
     for times, is_met in ((1.0, True), (0.98, False)):
         unmet = [best_unmet(item, times * prices[0]) for item in items[:3]]
         share = np.average(unmet, weights=[*map(value_of, items[:3])])
         assert bool(share <= 0.1 + 1e-9) is is_met
-    run = planned_of(
-        TOGETHER, Walked(items[1], settings, OWN, Walk(26, 2, 26), {TOGETHER: way})
-    )
-    assert run and len(run.aims) == 5
+    walked = Walked(items[1], Walk(26, 26), {PLANNED: way})
+    run = walked.run(walked.planned)
     unmet = [1 - fill for _, fill in run.promises[:1]]
     assert unmet == pytest.approx([best_unmet(items[1], prices[0])])
     met = list[float]()
     for (s, S), *_ in run.aims:
-        figures = question_of(items[1].part(0, 26), settings).figures((s, S))
+        figures = question_of(items[1].part(0, 26), ALONE).figures((s, S))
         met.append(figures.fill)
-    assert met == sorted(met) and met[0] < met[-1]
-
-
-def test_shares_by_hand(tmp_path: Path) -> None:
-    """Class a wants 90 and 95%, in the mean by value nearer to what the items with more of it want. Classes of fewer than
-    10 items are one, and items with a backlog cost, or without a price, are in none."""
-    facts: dict[str, Any] = {"backlog": None, "setup": Fraction(4)}
-    items = list[Item]()
-    for place in range(34):
-        large = place % 2
-        counts = (3,) * 52 if large else (1,) * 52
-        fill = Fraction(95 if large else 90, 100)
-        items.append(item_of(place, counts=counts, fill=fill, **facts))
-    items[33] = dataclasses.replace(items[33], backlog=Fraction(9))
-    sales, masters = tables_of(items)
-    masters["class"] = ["a"] * 20 + ["b"] * 6 + ["c"] * 8
-    masters["price"] = [2, 2] * 10 + [3, 1] * 6 + [None, 1]
-    found = list[dict[str, float]]()
-    for number, table in enumerate((masters, masters.drop(columns="price"))):
-        with own_folder(tmp_path / str(number), CATALOGUE) as folder:
-            take_tables(folder, sales, table, None, None, Reading(every="week"), 1)
-            with contextlib.closing(Records(folder.path / READ, 26)) as records:
-                found.append(wanted_shares(records))
-    assert found == [{"": 0.925, "a": round((0.9 + 3 * 0.95) / 4, 4)}, {}]
+    assert len(met) == 5 and met == sorted(met) and met[0] < met[-1]
 
 
 def refused(*_: Any) -> None:
     raise crn.Refused("it has no policy")
 
 
-def test_ways_that_records_do_not_teach(
+def test_what_can_not_be_tested(
     tmp_path: Path, monkeypatch: pytest.MonkeyPatch
 ) -> None:
-    """It is said why no price is tested, and how long a record has to be for the seasons of the plan. With none wanted,
-    and in a plan without any, nothing is."""
+    """It is said why items have no price together, and how long a record has to be for the seasons that there are. With none
+    wanted nothing is."""
     sales, masters = tables_of(small(place, SMALL[1], 1) for place in range(21))
-    masters["class"] = "x"
-    own = Settings(fit="empirical", borrow=NONE, every="week")
-    words = Reading(every="week")
-    said = list[Way | Remark]()
-    for priced in (9, 10, 21):
-        masters["price"] = [1] * priced + [None] * (21 - priced)
-        if priced == 21:
-            monkeypatch.setattr(together, "offer_of", refused)
-        with own_folder(tmp_path / str(priced), CATALOGUE) as folder:
-            take_tables(folder, sales, masters, None, None, words, 1)
-            with contextlib.closing(
-                Records(folder.path / READ, 26)
-            ) as records, contextlib.closing(
-                Store(folder.store(TESTS), Backtest)
-            ) as tests:
-
-                def learning(**words: Any) -> Learning:
-                    on = dataclasses.replace(own, **words)
-                    return Learning(folder, tests, records, on, OWN, Means(1))
-
-                said.append(learning().together())
-                seasonal = dataclasses.replace(own, seasons=SEASONS)
-                short = learning().seasonal(seasonal)
-                assert learning().seasonal(own) is None
-                assert learning(season="none").seasonal(seasonal) is None
-    few, unpriced, none = said
-    assert few == Remark("few together", {"least": 10})
-    assert isinstance(none, Remark) and none.code == "not together"
+    masters["class"], masters["price"] = "x", 1
+    settings = dataclasses.replace(ALONE, together={REST: 0.9})
+    monkeypatch.setattr(together, "offer_of", refused)
+    with own_folder(tmp_path / "own", CATALOGUE) as folder:
+        take_tables(folder, sales, masters, None, None, Reading(every="week"), 1)
+        with learning(folder, 26, settings) as on:
+            way = on.priced(Way(settings, OWN))
+            on.__dict__["seen"] = Seasons("week", {"x": SEASONS.classes[""]})
+            assert on.seasons() is None
+            none, short = on.remarks
+        with learning(folder, 26, dataclasses.replace(ALONE, season="none")) as on:
+            assert on.seasons() is None and on.remarks == []
+    assert way.settings.prices is None and not way.settings.shares
     assert "none of its items can be planned" in sentence(none)
-    assert isinstance(unpriced, Remark)
-    why = "11 of 21 items that are to be planned together have no price, by which they"
-    assert why in sentence(unpriced)
     assert short == Remark("seasons untested", {"record": 26, "least": 104})
     assert "record=104" in worded(sentence(short))
 
 
-def test_methods_of_a_plan() -> None:
-    own = Settings(fit="empirical", borrow=NONE, every="week")
-    assert methods_of(own) == []
-    assert methods_of(
-        dataclasses.replace(own, correct=True, prices=PRICES, seasons=SEASONS)
-    ) == ["corrected", "together", "seasonal"]
+def test_seasons_of_records(tmp_path: Path) -> None:
+    """Two years of records have the seasons of these; one year has those of the classes that all years show, with its own
+    values; and that is said."""
+    paths = write(tmp_path / "tables", seasonal, "month")
+    seen = dict[int, Seasons]()
+    settings = dataclasses.replace(ALONE, every="month")
+    with own_folder(tmp_path / "own", CATALOGUE) as folder:
+        rules = Reading(every="month", fill="95%")
+        take_tables(folder, *paths, None, None, rules, 1)
+        for record in (12, 36, 60):
+            with learning(folder, record, settings) as on:
+                seasons = on.seasons()
+                assert seasons
+                seen[record] = seasons
+                said = [remark.code for remark in on.remarks]
+                assert said == (["seasons of records"] if record == 12 else [])
+    years = {record: one.classes["x"].years for record, one in seen.items()}
+    assert years == {12: 1, 36: 3, 60: 5}
+    wave = 1 + 0.6 * np.sin(2 * np.pi * np.arange(12) / 12)
+    for one in seen.values():
+        assert np.array(one.classes["x"].values) == pytest.approx(wave, abs=0.15)

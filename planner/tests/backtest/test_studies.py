@@ -12,7 +12,6 @@ import pandas as pd
 import pytest
 
 from crnplan.demand.borrowing import fit_demand
-from crnplan.plan.backtest.sums import HOLDS, TIME, UNSURE
 from planner.studies import (
     broken,
     correction,
@@ -20,6 +19,7 @@ from planner.studies import (
     real_series,
     walk_forward,
 )
+from planner.studies.kept_plans import HOLDS, TIME, UNSURE, shuffled
 from planner.studies.level_spread_tail import (
     Ratios,
     on_lattice,
@@ -30,6 +30,7 @@ from planner.studies.level_spread_tail import (
 from planner.studies.real_series import Series, parse
 from planner.tests.backtest.test_sums import made
 from planner.tests.demand.made import chances_of
+from planner.tests.plan.items import item_of
 
 DEMAND = np.random.default_rng(3).negative_binomial(12, 0.375, 52).tolist()
 
@@ -62,11 +63,21 @@ def test_masters_by_hand() -> None:
 def test_halves_by_hand() -> None:
     """Of a demand of 10 a period 5% is promised unmet. The first item misses in the second half alone, by 5 points."""
     tests = [
-        made([0] * 26 + [1] * 26, [0] * 52, 0),
-        made([0] * 52, [0] * 52, 1),
-        made([1] * 52, [0] * 52, 2),
+        made([0] * 26 + [1] * 26, 0),
+        made([0] * 52, 1),
+        made([1] * 52, 2),
     ]
     assert walk_forward.halves(tests) == ([False, False, True], [True, False, True])
+
+
+def test_shuffled_has_the_same_periods() -> None:
+    """A random order keeps the demand of each period with what came back, and follows from the seed."""
+    item = item_of(4, returns=tuple(range(60)))
+    other = shuffled(item, 1)
+    pairs = [sorted(zip(one.counts, one.returns)) for one in (item, other)]
+    assert pairs[0] == pairs[1]
+    assert other.counts != item.counts
+    assert other == shuffled(item, 1) != shuffled(item, 2)
 
 
 @pytest.mark.parametrize(

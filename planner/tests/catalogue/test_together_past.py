@@ -174,23 +174,24 @@ def test_many_items_are_drawn(
     assert met_by(members(corrected), drawn.price) == pytest.approx(WANTED, abs=0.01)
 
 
-def test_backtests_plan_item_by_item(program: Path, tmp_path: Path) -> None:
-    """What was found is from all periods, so a folder is tested with the fill rates of its items, and beside with prices
-    that were found on records. What these met is said."""
+def test_backtests_find_prices_on_records(program: Path, tmp_path: Path) -> None:
+    """What was found is from all periods, so a folder is tested with prices that were found on records, and with each item
+    alike. Items with a price and without a backlog cost count by their value."""
     words = {**SETTINGS, "together": WANTED, "program": program}
     plan = crn.plan(*made(), out=tmp_path / "plan", **words)
     with planned_folder(plan.path) as folder:
         settings = folder.settings
     with own_folder(plan.path, CATALOGUE) as own:
         tests = write_backtest(own, settings, Walk(26, 13, 26), Means(1))
-    plain = crn.backtest(*made(), record=26, every=13, window=26, **ALONE)
-    columns = [name for name in plain.frame if "together" not in name]
-    pd.testing.assert_frame_equal(tests.frame[columns], plain.frame[columns])
+    walk = {"record": 26, "every": 13, "window": 26}
+    plain = crn.backtest(*made(), **walk, **ALONE, together=WANTED)
+    pd.testing.assert_frame_equal(tests.frame, plain.frame)
+    assert tests.frame["fill_alike"].notna().all()
     with planned_folder(plan.path) as folder:
-        line = past_line(past_of_folder(folder))
-    met = tests.sums.fill_together[0]
-    said = f" By the plan by one price for what is not met, as with the key together: {met:.1%}."
-    assert line == tests.text.splitlines()[0] + said
+        assert past_line(past_of_folder(folder)) == tests.text.splitlines()[0]
+    for item, test in tests.tested.items:
+        is_together = item.price and item.backlog is None
+        assert test.value == (float(item.price) if is_together else None)
 
 
 def test_price_is_never_below_that_of_theory(

@@ -15,6 +15,7 @@ from crnplan.demand.index import (
     Index,
     Years,
     class_index,
+    in_years,
     own_alarms,
     own_index,
     pooled,
@@ -170,6 +171,21 @@ def test_small_seasons() -> None:
         of_class = Index(tuple(STRONG.tolist()), 0.0, 1.0, 3)
         own = own_index(item_with(STRONG + wave - 1, 3, 1e6), of_class)
         assert (own is not of_class) is is_planned
+
+
+def test_season_of_fewer_years_by_hand() -> None:
+    """Of what two years show 0.8 are left, so their error is a fifth, and that of one year two fifths: of what it shows 0.8
+    in 1.2 are left. Two years are as they were."""
+    items = [Years(np.array([STRONG, 2 - STRONG]), np.ones(2))] * 10
+    index = Index((1.0,) * MONTHS, 0.001, 0.8, 2)
+    one = in_years(index, [Years(it.ratios[:1], it.asked[:1]) for it in items])
+    assert one and one.years == 1 and one.share == pytest.approx(2 / 3)
+    assert np.array(one.values) == pytest.approx(1 + 2 / 3 * (STRONG - 1))
+    two = in_years(index, items)
+    assert two and two.share == pytest.approx(0.8)
+    assert np.array(two.values) == pytest.approx(np.ones(MONTHS))
+    none = Years(np.empty((0, MONTHS)), np.empty(0))
+    assert in_years(index, [none] * 10) is None
 
 
 def test_season_of_an_item() -> None:

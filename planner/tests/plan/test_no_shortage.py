@@ -13,7 +13,7 @@ import pytest
 
 import crnplan as crn
 from crnplan.plan.answer import BOUNDED, SERVICE, Answer
-from crnplan.plan.backtest.smoothing import wanted_share
+from crnplan.plan.backtest.rules import wanted_share
 from crnplan.plan.binding import remarks_of_today
 from crnplan.plan.choice import Choice, choice_of, unless_worse
 from crnplan.plan.one import plan_one

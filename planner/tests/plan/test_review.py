@@ -14,8 +14,8 @@ import pytest
 import crnplan as crn
 from crnplan.crnsim.periods import Realization, periods_of
 from crnplan.plan.answer import THEORY
-from crnplan.plan.backtest.methods import Walk, Walked
-from crnplan.plan.backtest.smoothing import smoothed_levels
+from crnplan.plan.backtest.methods import PLANNED, Walk, Walked, Way
+from crnplan.plan.backtest.rules import normal_levels, smoothed_last
 from crnplan.plan.choice import choice_of
 from crnplan.plan.correction import in_blocks
 from crnplan.plan.one import plan_one
@@ -128,17 +128,18 @@ def test_the_past_has_the_same_reviews() -> None:
     """A test on the past, its rule of thumb and a correction look at stock on the same days: the first later period is
     one, or the first of the record's second time."""
     item = item_of(review=4, **FILL)
-    walked = Walked(item, alone(fit="empirical"), NONE, Walk(record=30, every=13))
-    levels = [walked.plan.levels] * len(item.counts)
+    ways = {PLANNED: Way(alone(fit="empirical"), NONE)}
+    walked = Walked(item, Walk(record=30, every=13), ways)
+    levels = [walked.planned[0].figures.levels] * len(item.counts)
     ordered = [it.ordered > 0 for it in walked.happened.periods(levels)]
     assert sum(ordered) and not any(
         is_order for place, is_order in enumerate(ordered) if place % 4
     )
-    (first, *_), (sooner, *_) = (
-        [*smoothed_levels(it, 0.95, item.counts, 2.0, 0.0)]
-        for it in (item, item_of(**FILL))
+    forecast = smoothed_last(item.counts)
+    (first,), (sooner,) = (
+        normal_levels(it, [0.95], forecast, 2.0, 0.0) for it in (item, item_of(**FILL))
     )
-    assert first[0] - sooner[0] >= 2 * np.mean(item.counts[:13])
+    assert first[0] - sooner[0] >= 3 * forecast.mean
 
     def planned(question: Question) -> list[Levels]:
         return [(1, 10)]

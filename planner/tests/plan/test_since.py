@@ -61,7 +61,7 @@ def test_levels_of_each_month_before_the_plan(program: Path) -> None:
     answer = plan_asked((old, None), settings, Prior(NONE), str(program))
     assert isinstance(answer, Answer)
     came = since_of((old, answer), now, settings, FIRST + RECORD)
-    assert came and came.kept.fill is not None
+    assert came and came.planned.fill is not None
     s, S = answer.chosen_in(FIRST + 3 * YEAR).levels
     wanted = {met_with(now, answer.calendar, start) for start in range(s, S + 1)}
-    assert any(came.kept.fill == pytest.approx(fill) for fill in wanted)
+    assert any(came.planned.fill == pytest.approx(fill) for fill in wanted)

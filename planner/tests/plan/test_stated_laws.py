@@ -15,7 +15,8 @@ from crnplan.demand.index import Index
 from crnplan.demand.learning import Prior
 from crnplan.money import Currency
 from crnplan.plan.aims import FILLS, Aims, Tried
-from crnplan.plan.backtest.methods import Walk
+from crnplan.plan.answer import Answer
+from crnplan.plan.backtest.methods import PLANNED, Walk, Way
 from crnplan.plan.backtest.one import Backtest, backtest_item
 from crnplan.plan.item import Depth
 from crnplan.plan.offers import Asked, Offer, offer_of, past_of
@@ -160,12 +161,12 @@ def test_together_by_theory_and_on_the_past() -> None:
 
 def test_backtests_plan_by_the_history() -> None:
     """Nobody has stated a law for the past: an item is tested as if it had none, or not at all without a history."""
-    walk, settings = Walk(record=40, every=10), alone(every="week")
+    walk, ways = Walk(40, 10), {PLANNED: Way(alone(every="week"), NOTHING)}
     known = item_of(3)
-    test = backtest_item(replace(known, law=LAW, past=STATED), settings, NOTHING, walk)
+    test = backtest_item(replace(known, law=LAW, past=STATED), walk, ways)
     assert isinstance(test, Backtest)
-    assert test == backtest_item(known, settings, NOTHING, walk)
-    without = backtest_item(stated(), settings, NOTHING, walk)
+    assert test == backtest_item(known, walk, ways)
+    without = backtest_item(stated(), walk, ways)
     assert isinstance(without, Remark) and without.code == "stated without history"
 
 

@@ -12,7 +12,8 @@ import pytest
 import crnplan as crn
 from crnplan.demand.learning import Prior
 from crnplan.errors import RefusedFaults
-from crnplan.plan.backtest.one import Walk, backtest_item
+from crnplan.plan.backtest.methods import PLANNED, Walk, Way
+from crnplan.plan.backtest.one import backtest_item
 from crnplan.plan.correction import trial_of
 from crnplan.plan.changes import rows_of, since_of
 from crnplan.plan.learned import learners
@@ -234,9 +235,8 @@ def test_a_plan_is_that_of_the_known_periods(program: Path) -> None:
 def test_the_past_is_that_of_the_known_periods() -> None:
     """A backtest and a trial leave unknown periods out, and the first later period has its number."""
     gaps, walk = item_with_gaps(fill=crn.money.exact("0.9")), Walk(40, 7, 30)
-    first, second = (
-        backtest_item(item, alone(), Prior(NONE), walk) for item in (gaps, gaps.known)
-    )
+    ways = {PLANNED: Way(alone(), Prior(NONE))}
+    first, second = (backtest_item(item, walk, ways) for item in (gaps, gaps.known))
     assert first.first == 43 and second.first == 40
     assert dataclasses.replace(first, first=40) == second
     trials = [trial_of(item, alone(), Prior(NONE)) for item in (gaps, gaps.known)]

@@ -129,10 +129,10 @@ def test_a_curve(results: Mapping[str, Any]) -> None:
 
 
 def test_methods_of_a_backtest(results: Mapping[str, Any]) -> None:
-    """Each method has a line, and the promise one; without a test there is no picture."""
+    """Each way has a line, and the promise one; without a test there is no picture."""
     texts = texts_of(results["backtest"].plot())
     assert f"promised: {results['backtest'].sums['promised_fill'][0]:.1%}" in texts
-    assert {"kept", "refitted", "smoothed"} <= {*texts}
+    assert {"planned", "averaged", "smoothed", "cover"} <= {*texts}
     none = crn.backtest(*tables(), record=52, every=30, jobs=1)
     with pytest.raises(crn.Refused, match="No item has a test"):
         none.plot()

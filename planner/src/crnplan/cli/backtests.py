@@ -26,7 +26,7 @@ def backtest(
     out: Path | None,
     record: int,
     every: int,
-    window: int,
+    window: int | None,
     stated: Sequence[str],
     config: str | None,
     jobs: int | None,

@@ -197,6 +197,20 @@ def class_index(items: Sequence[Years]) -> Index | None:
     return index if is_seen else None
 
 
+def in_years(index: Index, items: Sequence[Years]) -> Index | None:
+    """Returns the season of a class as fewer years of its items show it, shrunk by the error that all years have seen; None
+    without a year. As errors are independent from year to year, that of fewer is so much larger.
+    """
+    ratios = pooled([item for item in items if len(item.asked)])
+    if not len(ratios):
+        return None
+    error = (1 - index.share) * index.years / len(ratios)
+    share = index.share / (index.share + error)
+    values = np.maximum(FLAT + share * (ratios.mean(axis=0) - FLAT), LEAST_INDEX)
+    values /= values.mean()
+    return Index(tuple(values.tolist()), index.chance, share, len(ratios))
+
+
 def has_own(item: Years) -> bool:
     """Returns whether the record of an item says enough of a season of its own."""
     return len(item.asked) >= YEARS and bool(item.asked.min() >= OWN_ASKED)

@@ -48,7 +48,11 @@ class Since:
     first: int
     mean: float
     demands: tuple[int, ...]
-    kept: Outcome
+    planned: Outcome
+
+    @property
+    def value(self) -> None:
+        """Returns nothing: demand counts in units of the mean of its item."""
 
 
 @dataclass(frozen=True)
@@ -187,8 +191,8 @@ def since_of(old: ItemAnswer, now: Item, settings: Settings, stop: int) -> Since
             coming = stop + (number - stop) % year
             before.append(answer.chosen_in(coming).levels)
     chosen = [answer.chosen_in(period) for period in later]
-    kept = happened.of_figures(chosen, before)
-    return Since(later[0], sum(now.counts) / len(now.counts), demands, kept)
+    planned = happened.of_figures(chosen, before)
+    return Since(later[0], sum(now.counts) / len(now.counts), demands, planned)
 
 
 def change_of(
@@ -249,7 +253,7 @@ class SinceSums:
             len(known),
             max(len(since.demands) for since in known),
             1 - group.promised().value,
-            group.unmet("kept").estimate,
+            group.unmet("planned").estimate,
             group.missed().estimate,
             group.dearer().estimate,
         )

@@ -18,6 +18,7 @@ from ..demand.index import (
     Index,
     Years,
     class_index,
+    in_years,
     own_alarms,
     own_index,
 )
@@ -206,6 +207,20 @@ class Seasons:
             if alarm:
                 alarms[name] = alarm
         return cls(every, classes, promoted, alarms)
+
+    def as_of(self, items: Iterable[Item]) -> Seasons | None:
+        """Returns the seasons of the same classes as shorter records of their items show them: see `in_years`. None if none
+        of these has a year."""
+        groups = defaultdict[str, list[Years]](list)
+        for item in items:
+            weeks = self.promoted.get(item.group, ())
+            groups[item.group].append(years_without(self.every, item, weeks))
+        classes = dict[str, Index]()
+        for name, index in self.classes.items():
+            shorter = in_years(index, groups[name])
+            if shorter:
+                classes[name] = shorter
+        return replace(self, classes=classes, own={}) if classes else None
 
     def promotions(self, item: Item) -> set[int]:
         """Returns the places of the promoted periods of an item."""

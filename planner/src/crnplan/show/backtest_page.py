@@ -5,8 +5,8 @@ from collections.abc import Sequence
 
 from ..plan.backtest.catalogue import Tested
 from ..plan.backtest.one import Backtest
-from ..plan.backtest.methods import KEPT
-from ..plan.backtest.sums import moves_of, sides_of, summed
+from ..plan.backtest.methods import PLANNED
+from ..plan.backtest.sums import moves_of, sides_of
 from ..read.item import Item
 from .backtest_tables import class_rows, first_line, side_rows
 from ..drawing.plots import Line, Plot, Scale, path_of
@@ -14,18 +14,18 @@ from ..drawing.rendering import percent, rendered
 from .verdicts import METHOD_WORDS, gains_said, past_said
 
 MOST_WORST = 12
-MOST_STOCK = 300.0  # percent of that of the kept plan, which a picture shows
+MOST_STOCK = 300.0  # percent of that of the plan, which a picture shows
 PROMISED = "of-promised"
 LEAST_END = 99.0  # percent, up to which an axis of service begins
 Tests = Sequence[tuple[Item, Backtest]]
 
 
 def method_curves(tests: Sequence[Backtest]) -> dict[str, list[tuple[float, float]]]:
-    """Returns by method its stock, in percent of that of the kept plan, and what it met at once with that, in percent, at
+    """Returns by way its stock, in percent of that of the plan, and what it met at once with that, in percent, at
     each of its aims."""
     curves = dict[str, list[tuple[float, float]]]()
     for method, sides in sides_of(tests):
-        curve, kept = sides.curve(method.code), sides.stock(KEPT).sum() or 1.0
+        curve, kept = sides.curve(method.code), sides.stock(PLANNED).sum() or 1.0
         points = list[tuple[float, float]]()
         for share, stocks in zip(curve.shares, curve.stocks):
             points.append((100 * float(stocks.sum() / kept), 100 - 100 * share))
@@ -35,8 +35,8 @@ def method_curves(tests: Sequence[Backtest]) -> dict[str, list[tuple[float, floa
 
 
 def curve_plot(tests: Sequence[Backtest], promised: float) -> Plot:
-    """Returns what each method met at once by its stock, over its aims, with what was promised. Stocks are in percent of
-    that of the kept plan."""
+    """Returns what each way met at once by its stock, over its aims, with what was promised. Stocks are in percent of
+    that of the plan."""
     curves, said = method_curves(tests), list[str]()
     for code, points in curves.items():
         (low, least), (high, most) = points[0], points[-1]
@@ -51,11 +51,11 @@ def curve_plot(tests: Sequence[Backtest], promised: float) -> Plot:
         path = path_of(across, up, shown)
         lines.append(Line(METHOD_WORDS[code].name, METHOD_WORDS[code].style, path))
     return Plot(
-        title="Demand met at once by stock, over the aims of each method",
-        description=f"Stock in percent of the kept plan's. {'; '.join(said)}.",
+        title="Demand met at once by stock, over the aims of each way",
+        description=f"Stock in percent of the plan's. {'; '.join(said)}.",
         heights=up.heights,
         marks=across.marks,
-        across="mean stock in money, in percent of the kept plan's",
+        across="mean stock in money, in percent of the plan's",
         lines=lines,
     )
 
@@ -63,8 +63,8 @@ def curve_plot(tests: Sequence[Backtest], promised: float) -> Plot:
 def missed(pair: tuple[Item, Backtest]) -> float:
     """Returns by how much of a period's mean demand an item missed its promise."""
     _, test = pair
-    promised = test.kept.promised_fill or 0
-    return (sum(test.kept.unmet) - (1 - promised) * sum(test.demands)) / (
+    promised = test.planned.promised_fill or 0
+    return (sum(test.planned.unmet) - (1 - promised) * sum(test.demands)) / (
         test.mean or 1
     )
 
@@ -79,7 +79,7 @@ def summed_of(tested: Tested) -> Tests:
     return [
         (item, test)
         for item, test in tested.items
-        if isinstance(test, Backtest) and summed(test)
+        if isinstance(test, Backtest) and test.mean > 0
     ]
 
 

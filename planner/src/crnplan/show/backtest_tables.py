@@ -8,15 +8,15 @@ from typing import NamedTuple
 from ..plan.backtest.catalogue import Past, Tested
 from ..plan.backtest.one import Backtest
 from ..plan.backtest.estimates import Estimate
-from ..plan.backtest.methods import KEPT, METHODS
-from ..plan.backtest.sums import SLACK, Sums, moves_of
+from ..plan.backtest.methods import METHODS, PLANNED
+from ..plan.backtest.sums import LITTLE, MUCH, SLACK, Sums, moves_of
 from ..read.item import Item
 from ..remarks import Remark
 from ..table import Column, DataTable, aligned
-from ..sentences import advised, counted
+from ..sentences import advised
 from ..columns import columns_of
 from ..drawing.rendering import met, number, percent, points, rendered
-from .verdicts import GAIN, METHOD_WORDS, gains_said, less_said, past_said
+from .verdicts import GAIN, METHOD_WORDS, gains_said, past_said
 
 BACKTEST, SUMS, SUMMARY, PAGE = (
     "backtest.csv",
@@ -24,7 +24,6 @@ BACKTEST, SUMS, SUMMARY, PAGE = (
     "backtest.txt",
     "backtest.html",
 )
-SHUFFLED = "shuffled"
 
 
 class BacktestRow(NamedTuple):
@@ -59,12 +58,12 @@ def verdict_of(sums: Sums) -> str:
 
 CODES = [method.code for method in METHODS]
 CELLS = {"verdict": verdict_of}
-# Columns that methods lack which promise nothing; and the kept plan, beside itself.
+# Columns that ways lack which promise nothing; and the plan, beside itself.
 UNPROMISED = {
     f"promised_fill_{method.code}" for method in METHODS if not method.is_promising
 }
 BESIDE_ITSELF = {
-    f"{figure}_{KEPT}{end}"
+    f"{figure}_{PLANNED}{end}"
     for figure in "stock cost equal_fill equal_stock equal_spent".split()
     for end in ("", "_error")
 }
@@ -79,7 +78,7 @@ def _columns(
     return tuple(column for column in columns if column.name not in lacking)
 
 
-BACKTEST_COLUMNS = _columns("backtest", [*CODES, SHUFFLED], UNPROMISED)
+BACKTEST_COLUMNS = _columns("backtest", CODES, UNPROMISED)
 SUM_COLUMNS = _columns("backtest_sums", CODES, BESIDE_ITSELF)
 
 
@@ -95,15 +94,14 @@ def sums_table(tested: Tested) -> DataTable:
 
 
 def side_rows(sums: Sums) -> list[list[str]]:
-    """Returns methods side by side, with a heading: what each met at once, and in percent beside the kept plan its stock,
-    cost, and stock, alone and with orders, where both meet what was promised."""
+    """Returns ways side by side, with a heading: what each met at once, and in percent beside the plan its stock, cost, and
+    stock, alone and with orders, where both meet what was promised."""
     at = f"at {percent(sums.promised)}"
-    heading = ["method", "met at once", "stock", "cost", "orders", "changes"]
+    heading = ["way", "met at once", "stock", "cost", "orders", "changes"]
     rows = [[*heading, f"stock {at}", f"stock and orders {at}"]]
     for method in METHODS:
         code = method.code
         if code in sums.unmet:
-            changes = sums.changes.get(code)
             rows.append(
                 [
                     METHOD_WORDS[code].name,
@@ -111,7 +109,7 @@ def side_rows(sums: Sums) -> list[list[str]]:
                     more(sums.stock.get(code)),
                     more(sums.beside.get(code)),
                     number(sums.orders[code], 3),
-                    "-" if changes is None else number(changes, 3),
+                    number(sums.changes[code], 3),
                     *equal_cells(sums, code),
                 ]
             )
@@ -120,8 +118,9 @@ def side_rows(sums: Sums) -> list[list[str]]:
 
 def class_rows(all_sums: Sequence[Sums]) -> list[list[str]]:
     """Returns a row for all items and for each class, with a heading: what was promised and came, how far that moved from
-    the first half of the later periods to the second, the verdict, and what gained."""
-    heading = ["class", "verdict", "what gained", "items", "missed by over a point"]
+    the first half of the later periods to the second, the verdict, and what needs less.
+    """
+    heading = ["class", "verdict", "what needs less", "items", "missed by over a point"]
     rows = [[*heading, "promised", "met at once", "second half beside first"]]
     for sums in all_sums:
         rows.append(
@@ -132,7 +131,7 @@ def class_rows(all_sums: Sequence[Sums]) -> list[list[str]]:
                 number(sums.items),
                 number(sums.broken),
                 percent(sums.promised),
-                met(sums.unmet[KEPT]),
+                met(sums.unmet[PLANNED]),
                 moved(sums.drift),
             ]
         )
@@ -147,7 +146,7 @@ def moved(drift: Estimate | None) -> str:
 
 
 def equal_cells(sums: Sums, code: str) -> tuple[str, str]:
-    """Returns what stock, alone and with orders, is above that of the kept plan where both meet as much; with where that
+    """Returns what stock, alone and with orders, is above that of the plan where both meet as much; with where that
     is, if it is not what was promised."""
     equal = sums.equal.get(code)
     if equal is None:
@@ -163,7 +162,7 @@ def more(share: Estimate | None) -> str:
 
 
 def sides_text(sums: Sums) -> str:
-    """Returns methods side by side as lines of a text."""
+    """Returns ways side by side as lines of a text."""
     return aligned(side_rows(sums)).rstrip("\n")
 
 
@@ -185,26 +184,31 @@ def backtest_summary(tested: Tested) -> str:
 
 
 def first_line(sums: Sums | None) -> str:
-    """Returns the line of the first screen: what the past says of the promise of all items, and what gained most."""
+    """Returns the line of the first screen: what the plan met of its promise, and which way would have needed least, or
+    that none needs less and which need more."""
     if sums is None:
         return "No item has a test on its own past."
-    line = (
-        f"On your own past a promised {100 * sums.promised:.1f}% was kept in {sums.items - sums.broken:,} of "
-        f"{counted(sums.items, 'item')}; together {came(sums, KEPT)}"
-    )
+    met, promised = percent(sums.met[PLANNED]), percent(sums.promised)
+    line = f"On your own past the plan met {met} at once of {promised} promised"
+    verdict, gains = sums.verdict, sums.gains
     if not sums.has_verdict:
         return f"{line}."
-    if sums.best is None:
-        return f"{line}; {GAIN['none']}."
-    by = f"by {METHOD_WORDS[sums.best].meaning}"
-    if sums.lifts(sums.best):
-        return f"{line}, and {came(sums, sums.best)} {by}."
-    return f"{line}; the same {by}, with {less_said(sums.gains[0])}."
+    if verdict.code in (MUCH, LITTLE):
+        line += f", with {sized('excess', verdict, '+')} stock beside what that needed"
+    if gains:
+        by = METHOD_WORDS[gains[0].code].meaning
+        return f"{line}; for as much {by} needs {sized('spent', gains[0], '+')} stock and orders."
+    more = [
+        f"{METHOD_WORDS[it.code].name} {sized('spent', it, '+')}" for it in sums.losses
+    ]
+    line += f"; {GAIN['none']}"
+    return f"{line}, and these need more: {', '.join(more)}." if more else f"{line}."
 
 
-def came(sums: Sums, method: str) -> str:
-    """Returns what a method met at once."""
-    return f"{100 - 100 * sums.unmet[method].value:.1f}%"
+def sized(name: str, found: Remark, sign: str = "") -> str:
+    """Returns a figure of a remark in percent with its error."""
+    figure, error = found.facts[name], found.facts[f"{name}_error"]
+    return f"{figure:{sign}.1f} ± {error:.1f}%"
 
 
 def past_line(past: Past | None) -> str:
@@ -219,13 +223,4 @@ def past_line(past: Past | None) -> str:
             "The test on your own past is not of this plan. Run crnplan backtest FOLDER again, then crnplan report "
             "FOLDER."
         )
-    sums, lines = past.sums, [first_line(past.sums)]
-    if sums is None:
-        return lines[0]
-    for method in past.methods:
-        meaning = METHOD_WORDS[method].meaning
-        if method not in sums.unmet:
-            lines.append(f"That is without {meaning}, which is not tested.")
-        elif method != sums.best:
-            lines.append(f"By {meaning}: {came(sums, method)}.")
-    return " ".join(lines)
+    return first_line(past.sums)

@@ -40,18 +40,13 @@ def past_said(verdict: Remark) -> str:
     return PAST[verdict.code].format(**verdict.facts)
 
 
-def gains_said(gains: Sequence[Remark]) -> str:
-    """Returns which methods have gained on the past, the best first, and how much."""
+def gain_said(gain: Remark) -> str:
+    """Returns what a way needs beside the plan that meets as much."""
+    return GAIN["one"].format(name=METHOD_WORDS[gain.code].name, **gain.facts)
+
+
+def gains_said(gains: Sequence[Remark], word: str = "less") -> str:
+    """Returns which ways need less than the plan, or more, the best first, and how much."""
     if not gains:
         return GAIN["none"]
-    parts = list[str]()
-    for gain in gains:
-        name = METHOD_WORDS[gain.code].name
-        words = GAIN["apart" if gain.facts["fill"] is None else "one"]
-        parts.append(words.format(name=name, **gain.facts))
-    return f"gained: {', '.join(parts)}"
-
-
-def less_said(gain: Remark) -> str:
-    """Returns what a method needs beside the kept plan that meets as much."""
-    return GAIN["less"].format(**gain.facts)
+    return f"{GAIN[word]}: {', '.join(map(gain_said, gains))}"

@@ -9,6 +9,7 @@ import dataclasses
 import json
 from collections.abc import Iterator, Sequence
 from dataclasses import dataclass
+from typing import Any
 
 from ...compiled import load_compiler
 from ...store.files import IN_KEPT, Folder, faults_of
@@ -20,8 +21,8 @@ from ...store.stored import Store
 from ...store.work import Work
 from ..catalogue import PlannedFolder, whole_digest
 from ..how import Settings
-from .lessons import Lessons, Records, uncorrected
-from .methods import CORRECTED, SEASONAL, TOGETHER, Walk
+from .lessons import Lessons, Records, unlearned
+from .methods import Walk
 from .one import Backtest, backtest_item
 from .sums import Sums, sums_of, whole_of
 
@@ -57,34 +58,26 @@ class Tested:
 @dataclass(frozen=True)
 class Past:
     """What the test in the folder of a plan says of all its items, None if it tests none. `is_old` says whether it is
-    of other rows or settings than the plan, and `methods` which ones the plan has: some of CORRECTED, TOGETHER and
-    SEASONAL.
+    of other rows or settings than the plan.
     """
 
     sums: Sums | None
     is_old: bool
-    methods: Sequence[str] = ()
 
 
 OLD = Past(None, True)
 
 
-def methods_of(settings: Settings) -> list[str]:
-    """Returns the methods by which a plan is made beside the kept one."""
-    seasons = settings.seasons
-    has = {
-        CORRECTED: settings.correct,
-        TOGETHER: bool(settings.prices),
-        SEASONAL: bool(seasons and seasons.classes),
-    }
-    return [method for method in has if has[method]]
+def plain(settings: Settings) -> Any:
+    """Returns settings as they are kept beside tests."""
+    return json.loads(json.dumps(dataclasses.asdict(settings), default=float))
 
 
 def past_of(planned: PlannedFolder) -> Past | None:
     """Returns what the test in the folder of a plan says; None if there is none."""
     if not (planned.path / TESTS).is_file():
         return None
-    path, own = planned.read.path, dataclasses.asdict(uncorrected(planned.settings))
+    path, own = planned.read.path, plain(unlearned(planned.settings))
     with (
         Store(planned.path / TESTS, Backtest) as tests,
         Catalogued(path, is_known=True, planned=WEIGHED) as read,
@@ -99,7 +92,7 @@ def past_of(planned: PlannedFolder) -> Past | None:
             return OLD
         answers = (test for _, _, test in tests.answers())
         sums = sums_of(test for test in answers if isinstance(test, Backtest))
-        return Past(whole_of(sums), False, methods_of(planned.settings))
+        return Past(whole_of(sums), False)
 
 
 def backtest_into(
@@ -120,10 +113,10 @@ def backtest_into(
             lambda: read.digests(common),
             read.whole_item,
             backtest_item,
-            (lessons.settings, lessons.prior, walk, lessons.ways),
+            (walk, lessons.ways),
             load=load_compiler,
         )
-        basis = json.dumps([common, dataclasses.asdict(lessons.settings)])
+        basis = json.dumps([common, plain(lessons.stated)])
         work.finish(means.workers(), {TESTED: basis}, shown=means.shown)
         items = list[tuple[Item, Backtest | Remark]]()
         for item, (_, _, test) in zip(read.whole_items(), tests.answers(), strict=True):

@@ -1,11 +1,10 @@
-"""What the items of a catalogue have learned up to the end of their records, and how each method plans by that."""
+"""What the items of a catalogue have learned up to the end of their records, and how each way plans by that."""
 from __future__ import annotations
 
 import dataclasses
-import statistics
-from collections import defaultdict
 from collections.abc import Iterator, Mapping
-from dataclasses import dataclass
+from dataclasses import dataclass, field
+from functools import cached_property
 from pathlib import Path
 from typing import Any
 
@@ -15,7 +14,7 @@ from ...demand.seasons import CALENDAR, YEARS
 from ...errors import Refused
 from ...spelling import worded
 from ...read.catalogue_reading import Catalogued
-from ...read.item import UNORDERED, WEIGHED, Item
+from ...read.item import WEIGHED, Item
 from ...remarks import Remark
 from ...store.files import IN_KEPT, Folder
 from ...store.means import Means
@@ -24,14 +23,12 @@ from ..aims import Aims
 from ..correction import LEAST_ITEMS, OF_FILLS, tried_on, ways_of
 from ..how import LEARNED, Settings
 from ..learned import following_of, learned_of, seasons_of
-from ..prices import REST, weight_of
-from ..seasons import Seasons
-from ..together import Finding
-from .methods import CORRECTED, FOLLOWED, SEASONAL, TOGETHER, Walk, Way
+from ..following import Following
+from ..seasons import Seasons, whole_years
+from ..together import Finding, wants_aims
+from .methods import ALIKE, FOLLOWED, PLANNED, SEASONLESS, STILL, Walk, Way
 
 OF_RECORDS = OF_FILLS._replace(store=f"{IN_KEPT}backtest_trials.sqlite")
-LEAST_GROUP = 10  # Classes of fewer items have one price together.
-DIGITS = 4  # of a wanted share
 
 
 class Records(Catalogued):
@@ -79,120 +76,128 @@ class OfRecords(Finding):
         self.part = f"record {read.record}"
 
 
-def uncorrected(settings: Settings) -> Settings:
-    """Returns settings by which plans are tested: what a catalogue has learned of fill rates, prices and seasons is from
-    all its periods, also from those on which they are tested. So each item has its own fill rate.
-    """
-    own: dict[str, Any] = {
-        "correct": False,
-        "together": {},
-        "at_least": None,
-        "fill": None,
-        "service": {},
-    }
-    return dataclasses.replace(settings, **own, **dict.fromkeys(LEARNED))
+def unlearned(settings: Settings) -> Settings:
+    """Returns settings without what a catalogue has learned: that is of all its periods, also of those on which plans are
+    tested."""
+    return dataclasses.replace(settings, **dict.fromkeys(LEARNED))
+
+
+def alone(settings: Settings) -> Settings:
+    """Returns settings by which each item meets by itself what it wants."""
+    return dataclasses.replace(
+        settings, alike=True, together={}, at_least=None, prices=None
+    )
 
 
 @dataclass(frozen=True)
 class Learning:
-    """What items learn by: a folder, which keeps what was tried, their records, the settings of the kept plan, what its
-    laws learn, and the means."""
+    """What items learn by: a folder, which keeps what was tried, all their periods, their records, the stated settings, what
+    laws learn, and the means. `remarks` say what is not tested."""
 
     folder: Folder
     tests: Store[Any]
+    whole: Catalogued
     read: Records
     settings: Settings
     prior: Prior
     means: Means
+    remarks: list[Remark] = field(default_factory=list)
 
-    def way(self, **words: Any) -> Way:
-        """Returns the way of a method by words of planning and what was learned for it, with the same laws."""
-        return Way(dataclasses.replace(self.settings, **words), self.prior)
+    @cached_property
+    def seen(self) -> Seasons | None:
+        """Returns the seasons that all periods show; None if there are none."""
+        seasons = seasons_of(self.tests, self.whole, self.settings, True)
+        return seasons if seasons and has_seasons(self.whole, seasons) else None
 
-    def corrected(self) -> Way | Remark:
-        """Returns the fill rates at which items would have aimed by their records alone, as `correct` has them; or why
-        they would not. What was tried is kept in the folder."""
-        on = ways_of(self.settings)
-        words = self.folder, self.read, on, self.prior, self.means, OF_RECORDS
+    def seasons(self) -> Seasons | None:
+        """Returns the seasons of the catalogue as the records show them; None if there are none. Records of less than two
+        years have those that all periods show, but their values."""
+        seen = self.seen
+        if seen is None:
+            return None
+        every = seen.every
+        if whole_years(every, self.read.length) >= YEARS:
+            seen = seasons_of(self.tests, self.read, self.settings, True)
+            return seen if seen and has_seasons(self.read, seen) else None
+        records = seen.as_of(self.read.items())
+        facts = {"record": self.read.length, "least": YEARS * CALENDAR[every]["season"]}
+        self.remarks.append(
+            Remark("seasons of records" if records else "seasons untested", facts)
+        )
+        return records
+
+    def following(self, settings: Settings) -> Following | None:
+        """Returns how far classes follow their level, as all periods say; None if none does."""
+        seasons = self.seen if settings.seasons else None
+        on = dataclasses.replace(settings, follow=AUTO, seasons=seasons)
+        following = following_of(self.tests, self.whole, on, True)
+        return following if following and following.classes else None
+
+    def corrected(self, way: Way) -> Way:
+        """Returns a way that aims as the past of the records corrects it, if it is to."""
+        if not way.settings.correct or not wants_aims(self.read, way.settings):
+            return way
+        on = ways_of(way.settings)
+        words = self.folder, self.read, on, way.prior, self.means, OF_RECORDS
         tried = tried_on(*words, f"record {self.read.record}")
         if len(tried) < LEAST_ITEMS:
             facts = {"items": len(tried), "least": LEAST_ITEMS}
-            return Remark("not corrected", facts)
-        return self.way(correct=True, aims=Aims.of(tried))
+            self.remarks.append(Remark("not corrected", facts))
+            return way
+        settings = dataclasses.replace(way.settings, aims=Aims.of(tried))
+        return way._replace(settings=settings)
 
-    def together(self) -> Way | Remark:
-        """Returns the prices of classes by which their items would have been planned by theory and their records alone;
-        or why they would not."""
-        shares = wanted_shares(self.read)
-        if not shares:
-            return Remark("few together", {"least": LEAST_GROUP})
-        on = dataclasses.replace(self.settings, together=shares)
+    def priced(self, way: Way) -> Way:
+        """Returns a way with the prices at which the records meet what items want together, if they want any."""
+        if not way.settings.shares:
+            return way
+        words = self.folder, self.read, way.settings, way.prior, self.means
         try:
-            finding = OfRecords(self.folder, self.read, on, self.prior, self.means)
-            return self.way(together=shares, prices=finding.prices())
+            prices = OfRecords(*words).prices()
         except Refused as why:
-            return Remark("not together", {"what": worded(why.what)})
+            self.remarks.append(Remark("not together", {"what": worded(why.what)}))
+            return way._replace(settings=alone(way.settings))
+        settings = dataclasses.replace(
+            way.settings, prices=prices if prices.groups else None
+        )
+        return way._replace(settings=settings)
 
-    def followed(self) -> Way | None:
-        """Returns how far classes follow their level by their records alone; None if none does."""
-        on = dataclasses.replace(self.settings, follow=AUTO)
-        following = following_of(self.tests, self.read, on, True)
-        if not following or not following.classes:
-            return None
-        return self.way(follow=AUTO, following=following)
-
-    def seasonal(self, stated: Settings) -> Way | Remark | None:
-        """Returns the seasons that the records have, with what laws learn without them; None if there are none, or the
-        settings want none. If the plan has seasons for which records are too short, the remark says so.
-        """
-        seasons = seasons_of(self.tests, self.read, self.settings, True)
-        if seasons is None:
-            return None
-        if has_seasons(self.read, seasons):
-            settings = dataclasses.replace(self.settings, seasons=seasons)
+    def ways(self) -> dict[str, Way]:
+        """Returns the plan of the catalogue as a whole, and the ways that differ from it."""
+        seasons, prior = self.seasons(), self.prior
+        settings = dataclasses.replace(self.settings, seasons=seasons)
+        if seasons:
             prior = learned_of(self.tests, self.read, settings, True).prior
-            return Way(settings, prior)
-        least = YEARS * CALENDAR[seasons.every]["season"]
-        if stated.seasons and stated.seasons.classes and self.read.length < least:
-            facts = {"record": self.read.length, "least": least}
-            return Remark("seasons untested", facts)
-        return None
+        following = self.following(settings)
+        is_followed = settings.follow == AUTO
+        own = dataclasses.replace(
+            settings, following=following if is_followed else None
+        )
+        planned = self.priced(self.corrected(Way(own, prior)))
+        ways = {PLANNED: planned}
+        if planned.settings.prices:
+            ways[ALIKE] = planned._replace(settings=alone(planned.settings))
+        if seasons:
+            flat = dataclasses.replace(planned.settings, seasons=None)
+            ways[SEASONLESS] = Way(flat, self.prior)
+        if following:
+            other = None if is_followed else following
+            moved = dataclasses.replace(planned.settings, following=other)
+            ways[STILL if is_followed else FOLLOWED] = planned._replace(settings=moved)
+        return ways
 
 
-def has_seasons(read: Records, seasons: Seasons) -> bool:
+def has_seasons(read: Catalogued, seasons: Seasons) -> bool:
     """Returns whether a class or an item has a season."""
     return bool(seasons.classes) or any(map(seasons.of_item, read.items()))
 
 
-def wanted_shares(read: Catalogued) -> dict[str, float]:
-    """Returns which share of its demand each class of 10 items or more is to meet: what its items with a price and
-    without a backlog cost want, in the mean by the value of their demand. All others are one class, whose name is empty.
-    """
-    wanted = defaultdict[str, list[tuple[float, float]]](list)
-    for item in read.items():
-        counts = item.known.counts
-        weight = sum(counts) / max(1, len(counts)) * weight_of(item)
-        is_one = item.fill is not None and item.backlog is None
-        if weight and is_one and item.past not in UNORDERED:
-            wanted[item.category].append((float(item.fill or 0), weight))
-    for name in [name for name in wanted if len(wanted[name]) < LEAST_GROUP]:
-        if name != REST:
-            wanted[REST] += wanted.pop(name)
-    return {
-        name: round(statistics.fmean(*zip(*wanted[name])), DIGITS)
-        for name in sorted(wanted)
-        if len(wanted[name]) >= LEAST_GROUP
-    }
-
-
 @dataclass(frozen=True)
 class Lessons:
-    """What the items of a catalogue have learned up to the end of their records: the settings of the kept plan, what its
-    laws learn, the ways of the methods by which catalogues are planned, and remarks on all that.
-    """
+    """What the items of a catalogue have learned up to the end of their records: the `stated` settings, the ways in which
+    it is planned, and remarks on all that."""
 
-    settings: Settings
-    prior: Prior
+    stated: Settings
     ways: Mapping[str, Way]
     remarks: tuple[Remark, ...]
 
@@ -206,25 +211,18 @@ class Lessons:
         means: Means,
     ) -> Lessons:
         """Learns from the records of a catalogue."""
-        learned = learned_of(tests, read, uncorrected(stated), True)
-        settings = dataclasses.replace(
-            uncorrected(stated), borrow=learned.usual, every=read.fact("every")
+        stated = unlearned(stated)
+        learned = learned_of(tests, read, stated, True)
+        stated = dataclasses.replace(
+            stated, borrow=learned.usual, every=read.fact("every")
         )
-        on = Learning(folder, tests, read, settings, learned.prior, means)
-        ways, remarks = dict[str, Way](), [*learned.remarks]
-        for code, way in (
-            (CORRECTED, on.corrected()),
-            (TOGETHER, on.together()),
-            (SEASONAL, on.seasonal(stated)),
-            (FOLLOWED, on.followed()),
-        ):
-            if isinstance(way, Remark):
-                remarks.append(way)
-            elif way:
-                ways[code] = way
-        return cls(settings, learned.prior, ways, (*remarks,))
+        with Catalogued(read.path, planned=WEIGHED) as whole:
+            on = Learning(folder, tests, whole, read, stated, learned.prior, means)
+            ways = on.ways()
+        remarks = (*learned.remarks, *on.remarks)
+        return cls(stated, ways, remarks)
 
     def common(self, walk: Walk) -> str:
         """Returns what all tests depend on, as a text."""
-        ways = Way(self.settings, self.prior), *self.ways.values()
+        ways = self.ways.values()
         return repr([way.settings.common(repr(walk), way.prior) for way in ways])

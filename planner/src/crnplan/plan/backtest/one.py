@@ -6,22 +6,17 @@ run.
 from __future__ import annotations
 
 import dataclasses
-import operator
 import statistics
 from collections.abc import Mapping, Sequence
 from dataclasses import dataclass
 from typing import Any
 
-import numpy as np
-
-from ...demand.learning import Prior
-from ...errors import Refused
 from ...read.item import Item
 from ...remarks import Remark
 from ..one import or_fault
-from ..how import Settings
-from .methods import METHODS, NO_WAYS, Walk, Walked, Way
-from .outcomes import Outcome, Traced
+from ..prices import weight_of
+from .methods import METHODS, Walk, Walked, Way
+from .outcomes import Traced
 
 SHORT_RECORD = "short record"  # periods, needed
 NO_HISTORY = "stated without history"
@@ -31,11 +26,10 @@ NO_HISTORY = "stated without history"
 class Backtest:
     """An item's test on its past. `first` is the number of the first later period, `demands` what was asked in these,
     `mean` the mean demand of all its periods, `setup` money an order and `holding` money an item and period. `today` is
-    None without a policy today. `kept` and `refitted` are the plan.
-    `corrected` aims by the records of the catalogue, `together` has the price of the item's class, `seasonal` the
-    levels of each month, and `followed` is refitted at the level of the last periods: None if the records teach none of that. `smoothed` is the rule of thumb, and
-    `shuffled` the plan that is kept with all periods in a random order; None if that has none. `above` is the largest
-    later demand over the largest before, with nothing before None."""
+    None without a policy today. `planned` is the catalogue's plan as a whole. It is the same `alike` if each item meets by
+    itself what it wants, `seasonless` without seasons, `followed` at the level of the last periods, and `still` at that of
+    the record: None if the plan has no such way. `averaged`, `smoothed` and `cover` are rules of thumb. `value` is the price of an item that is planned
+    together with others, by whose value its demand counts."""
 
     name: str
     group: str
@@ -45,76 +39,42 @@ class Backtest:
     setup: float
     holding: float
     demands: tuple[int, ...]
-    above: float | None
     today: Traced | None
-    kept: Traced
-    refitted: Traced
-    corrected: Traced | None
-    together: Traced | None
-    seasonal: Traced | None
+    planned: Traced
+    alike: Traced | None
+    seasonless: Traced | None
     followed: Traced | None
+    still: Traced | None
+    averaged: Traced
     smoothed: Traced
-    shuffled: Outcome | None
-    shuffled_demands: tuple[int, ...]
+    cover: Traced
+    value: float | None = None
 
 
-def ratio(demands: Sequence[int], record: int) -> float | None:
-    """Returns the largest later demand over the largest before."""
-    before = max(demands[:record])
-    return max(demands[record:]) / before if before else None
-
-
-def shuffled(item: Item, seed: int) -> Item:
-    """Returns an item whose periods come in a random order."""
-    order = np.random.default_rng(seed).permutation(len(item.counts)).tolist()
-    pick = operator.itemgetter(*order)
-    returns = pick(item.returns) if item.returns else ()
-    return dataclasses.replace(item, counts=pick(item.counts), returns=returns)
-
-
-def backtest_one(
-    as_read: Item,
-    settings: Settings,
-    prior: Prior,
-    walk: Walk,
-    ways: Mapping[str, Way] = NO_WAYS,
-) -> Backtest:
+def backtest_one(as_read: Item, walk: Walk, ways: Mapping[str, Way]) -> Backtest:
     """Returns an item's test on its past: see `Walked`. Raises Refused if it could not be planned at the end of its
     record."""
-    walked, record = Walked(as_read, settings, prior, walk, ways), walk.record
+    walked, record = Walked(as_read, walk, ways), walk.record
     item = walked.item
     traced = dict[str, Any]()
     for method in METHODS:
         run = method.run(walked)
         traced[method.code] = run and walked.happened.traced(run)
-    other = shuffled(item, walked.question.seed("shuffled"))
-    try:
-        beside: Outcome | None = Walked(other, settings, prior, walk).kept()
-    except Refused:
-        beside = None
     return Backtest(
         name=item.name,
         group=item.category,
         record=record,
-        first=item.first + walked.later[0],
+        first=item.first + walked.places[record],
         mean=statistics.fmean(item.counts),
         setup=float(item.setup),
         holding=float(item.holding),
         demands=item.counts[record:],
-        above=ratio(item.counts, record),
         **traced,
-        shuffled=beside,
-        shuffled_demands=other.counts[record:],
+        value=None if walked.question.price is None else weight_of(item),
     )
 
 
-def backtest_item(
-    item: Item,
-    settings: Settings,
-    prior: Prior,
-    walk: Walk,
-    ways: Mapping[str, Way] = NO_WAYS,
-) -> Backtest | Remark:
+def backtest_item(item: Item, walk: Walk, ways: Mapping[str, Way]) -> Backtest | Remark:
     """Returns an item's test on its past, or why it has none. Unknown periods are left out, as if they had not been, so
     what a policy would have met in these counts for nothing. A law that is stated does not count.
     """
@@ -124,4 +84,4 @@ def backtest_item(
     periods, needed = len(item.known_places), walk.record + walk.every
     if periods < needed:
         return Remark(SHORT_RECORD, {"periods": periods, "needed": needed})
-    return or_fault(item, backtest_one, settings, prior, walk, ways)
+    return or_fault(item, backtest_one, walk, ways)

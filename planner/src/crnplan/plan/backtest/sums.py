@@ -1,19 +1,17 @@
-"""Adds up the tests of many items on their past, and says what breaks their promises.
+"""Adds up the tests of many items on their past, and says which way of planning needs least.
 
 Demand counts in units of an item's own mean, so that all items weigh alike. Costs are added as money. Errors are those of
 `estimates.py`.
 
-A miss of the promised fill has two parts. What remains with all periods in a random order is due to demands that a
-record is too short to show: rare large ones. The rest is due to time: its level, its season, and runs of high demand.
-A promise that was kept is broken by nothing. If it would have been missed in a random order, it was kept by luck.
+Ways are compared where they meet as much at once as the plan promised, by what stock and orders cost then. What the plan
+met more or less than that by itself is said with the stock that its promise would have needed.
 """
 from __future__ import annotations
 
 import math
 from collections import defaultdict
 from collections.abc import Iterable, Iterator, Mapping, Sequence
-from dataclasses import dataclass
-from operator import itemgetter
+from dataclasses import dataclass, replace
 from typing import TYPE_CHECKING, Any, NamedTuple
 
 import numpy as np
@@ -21,10 +19,9 @@ import numpy as np
 from ...chances import Floats
 from ...remarks import Remark, Value
 from .curves import Curve, CurveReading
-from .estimates import ALARM, NO_BLOCK, Estimate, Ratio, error_of
-from .methods import KEPT, METHODS, Method
+from .estimates import ALARM, Estimate, Ratio, error_of
+from .methods import METHODS, PLANNED, Method
 from .one import Backtest
-from .outcomes import Outcome
 
 if TYPE_CHECKING:
     from ..changes import Since
@@ -32,25 +29,15 @@ if TYPE_CHECKING:
 BLOCK = 4  # periods
 # Fewer items have no verdict.
 LEAST_ITEMS = 10
-VERDICTS = HOLDS, LUCK, UNSURE, TIME, RARE, BOTH = (
-    "holds",
-    "luck",
-    "unsure",
-    "time",
-    "rare",
-    "both",
-)
+HOLDS, MUCH, LITTLE, UNSURE = "holds", "much", "little", "unsure"
 FEW = "few"
 SLACK = 0.01  # of the fill: a smaller miss is none
-# A method that lifts what was met may cost so much more where both meet as much: less is hardly told from nothing.
-MOST_MORE = 0.1
 SMALL = 30  # Of classes of fewer items it is said how far they moved.
 # The figures of `Sums` that are given by method.
 BY_METHOD = (
     "unmet",
     "beside",
     "changes",
-    "gained",
     "stock",
     "equal",
     "orders",
@@ -58,14 +45,41 @@ BY_METHOD = (
 ALL_ITEMS = ""  # the class that stands for all items
 
 
+def in_percent(**estimates: Estimate) -> dict[str, Value]:
+    """Returns estimates as facts in percent, each with its error."""
+    facts = dict[str, Value]()
+    for name, estimate in estimates.items():
+        facts[name] = 100 * estimate.value
+        facts[f"{name}_error"] = 100 * estimate.error
+    return facts
+
+
 class Equal(NamedTuple):
-    """A method beside the kept plan where both meet a share of demand at once: by which shares its stock, and what stock
+    """A method beside the plan where both meet a share of demand at once: by which shares its stock, and what stock
     and orders cost, are above those of that plan. A method that orders more often holds less.
     """
 
     fill: float
     stock: Estimate
     spent: Estimate
+
+    @property
+    def facts(self) -> dict[str, Value]:
+        """Returns its figures, in percent."""
+        figures = in_percent(stock=self.stock, spent=self.spent)
+        return {"fill": 100 * self.fill, **figures}
+
+
+def spent_of(found: Remark) -> float:
+    """Returns what a way needs beside the plan."""
+    return float(str(found.facts["spent"]))
+
+
+def units_of(tests: Sequence[Backtest | Since]) -> Floats:
+    """Returns in which units the demand of each item counts: of its own mean; or if all are planned together with others,
+    of money."""
+    values, means = [test.value for test in tests], [test.mean for test in tests]
+    return np.array(means) if None in values else 1 / np.array(values, float)
 
 
 class TestGroup:
@@ -79,8 +93,8 @@ class TestGroup:
         first = min(test.first for test in tests)
         periods = [test.first - first + np.arange(len(test.demands)) for test in tests]
         self.blocks = np.concatenate(periods) // BLOCK
-        self.means = np.repeat([test.mean for test in tests], lengths)
-        self.asked = joined(test.demands for test in tests) / self.means
+        self.units = np.repeat(units_of(tests), lengths)
+        self.asked = joined(test.demands for test in tests) / self.units
 
     def _ratio(self, above: Floats, below: Floats) -> Ratio:
         return Ratio(above, below, self.items, self.blocks)
@@ -92,44 +106,29 @@ class TestGroup:
     def unmet(self, policy: str) -> Ratio:
         """Returns the share of demand that was not met at once."""
         unmet = joined(outcome.unmet for outcome in self.outcomes(policy))
-        return self._ratio(unmet / self.means, self.asked)
-
-    def _promised(self, plans: Iterable[Outcome | None]) -> Floats:
-        """Returns the share of demand that plans promised not to meet at once, in each period."""
-        shares = list[float]()
-        for plan in plans:
-            shares.append(1 - (plan and plan.promised_fill or 0.0))
-        each: Floats = np.array(shares)[self.items]
-        return each
+        return self._ratio(unmet / self.units, self.asked)
 
     def promised(self) -> Ratio:
-        """Returns the share of demand that the kept plan promised not to meet at once."""
-        return self._ratio(self._promised(self.outcomes(KEPT)) * self.asked, self.asked)
+        """Returns the share of demand that the plan promised not to meet at once."""
+        fills = [outcome.promised_fill or 0.0 for outcome in self.outcomes(PLANNED)]
+        unmet = 1 - np.array(fills)[self.items]
+        return self._ratio(unmet * self.asked, self.asked)
 
     def missed(self) -> Ratio:
-        """Returns what the kept plan missed of its promise."""
-        return self._ratio(self.unmet(KEPT).above - self.promised().above, self.asked)
-
-    def by_chance(self, tests: Sequence[Backtest]) -> Ratio:
-        """Returns what the kept plan missed with all periods in a random order, by the tests of these items."""
-        plans = [test.shuffled for test in tests]
-        asked = joined(test.shuffled_demands for test in tests) / self.means
-        unmet = joined(plan.unmet for plan in plans if plan) / self.means
-        missed, untimed = (
-            unmet - self._promised(plans) * asked,
-            self.blocks * 0 + NO_BLOCK,
+        """Returns what the plan missed of its promise."""
+        return self._ratio(
+            self.unmet(PLANNED).above - self.promised().above, self.asked
         )
-        return Ratio(missed, asked, self.items, untimed)
 
     def costs(self, policy: str) -> Floats:
         """Returns the costs of a policy by item and period."""
         return joined(outcome.costs for outcome in self.outcomes(policy))
 
     def dearer(self) -> Ratio:
-        """Returns what the kept plan cost more than it promised, as a share of the promise."""
-        costs = [outcome.promised_cost or 0.0 for outcome in self.outcomes(KEPT)]
+        """Returns what the plan cost more than it promised, as a share of the promise."""
+        costs = [outcome.promised_cost or 0.0 for outcome in self.outcomes(PLANNED)]
         promised = np.array(costs)[self.items]
-        return self._ratio(self.costs(KEPT) - promised, promised)
+        return self._ratio(self.costs(PLANNED) - promised, promised)
 
     def changes(self, policy: str) -> float:
         """Returns how often the levels of an item change in a period, by a policy."""
@@ -137,14 +136,14 @@ class TestGroup:
         return changes / len(self.items)
 
     def beside(self, policy: str) -> Ratio:
-        """Returns what a policy cost more than the kept plan, as a share of what that cost."""
-        kept = self.costs(KEPT)
-        return self._ratio(self.costs(policy) - kept, kept)
+        """Returns what a policy cost more than the plan, as a share of what that cost."""
+        planned = self.costs(PLANNED)
+        return self._ratio(self.costs(policy) - planned, planned)
 
     def drift(self) -> Estimate | None:
-        """Returns what the kept plan left unmet more in the second half of the later periods than in the first; None if
+        """Returns what the plan left unmet more in the second half of the later periods than in the first; None if
         nothing was asked for in a half."""
-        unmet = self.unmet(KEPT)
+        unmet = self.unmet(PLANNED)
         later = 2 * self.blocks > self.blocks.max()
         halves = list[Ratio]()
         for own in (later, ~later):
@@ -164,19 +163,14 @@ class Sides(TestGroup):
         self.holding: Floats = holding[self.items]
         self.setups = np.array([test.setup for test in tests])
 
-    def gained(self, method: str) -> Estimate:
-        """Returns the share of demand that a method met at once more than the kept plan."""
-        more = self.unmet(KEPT).above - self.unmet(method).above
-        return self._ratio(more, self.asked).estimate
-
     def stock(self, method: str) -> Floats:
         """Returns the stock of a method by item and period, in money."""
         return self.holding * joined(traced.stocks for traced in self.outcomes(method))
 
     def more_stock(self, method: str) -> Estimate | None:
-        """Returns what the stock of a method is above that of the kept plan, as a share; None if that has none."""
-        kept = self.stock(KEPT)
-        more = self._ratio(self.stock(method) - kept, kept)
+        """Returns what the stock of a method is above that of the plan, as a share; None if that has none."""
+        planned = self.stock(PLANNED)
+        more = self._ratio(self.stock(method) - planned, planned)
         return more.estimate if more.total else None
 
     def orders(self, method: str) -> Floats:
@@ -190,28 +184,38 @@ class Sides(TestGroup):
         unmet, stocks = list[Floats](), list[Floats]()
         for aim in range(len(traced[0].unmet_by_aim)):
             rows = joined(own.unmet_by_aim[aim] for own in traced)
-            unmet.append(rows / self.means)
+            unmet.append(rows / self.units)
             rows = joined(own.stocks_by_aim[aim] for own in traced)
             stocks.append(self.holding * rows)
         return Curve(self.asked, unmet, stocks)
 
+    def excess(self) -> Estimate | None:
+        """Returns by which share the stock of the plan is above what it needs to meet as much at once as it promised, or as
+        near to that as it gets at any aim. None without a stock."""
+        curve, own = self.curve(PLANNED), self.stock(PLANNED)
+        share = curve.nearest(curve, self.promised().value)
+        needed = curve.at(share or 0.0)
+        if needed is None or not needed.stock:
+            return None
+        return self._more(CurveReading(float(own.sum()), own), needed)
+
     def equal(self, method: str) -> Equal | None:
-        """Returns a method beside the kept plan where both meet as much at once as that promised, or as near to it as both
+        """Returns a method beside the plan where both meet as much at once as that promised, or as near to it as both
         get at any aim. None if they have nothing in common, or without a stock. Other aims are taken to have the orders of
         a method's own."""
-        curves = [self.curve(code) for code in (method, KEPT)]
+        curves = [self.curve(code) for code in (method, PLANNED)]
         share = curves[0].nearest(curves[1], self.promised().value)
-        own, kept = (curve.at(share or 0.0) for curve in curves)
-        if share is None or own is None or kept is None or not kept.stock:
+        own, planned = (curve.at(share or 0.0) for curve in curves)
+        if share is None or own is None or planned is None or not planned.stock:
             return None
         setups = self.setups[self.items]
-        ordering = [setups * self.orders(code)[self.items] for code in (method, KEPT)]
-        spent = own.with_more(ordering[0]), kept.with_more(ordering[1])
-        return Equal(1 - share, self._more(own, kept), self._more(*spent))
+        ordering = [setups * self.orders(it)[self.items] for it in (method, PLANNED)]
+        spent = own.with_more(ordering[0]), planned.with_more(ordering[1])
+        return Equal(1 - share, self._more(own, planned), self._more(*spent))
 
-    def _more(self, own: CurveReading, kept: CurveReading) -> Estimate:
-        """Returns what is above the kept plan, as a share."""
-        more, influence = own.beside(kept)
+    def _more(self, own: CurveReading, other: CurveReading) -> Estimate:
+        """Returns by which share a stock is above another one."""
+        more, influence = own.beside(other)
         return Estimate(more, *error_of(influence, self.items, self.blocks))
 
 
@@ -222,18 +226,17 @@ def joined(rows: Iterable[Sequence[float]]) -> Floats:
 
 @dataclass(frozen=True)
 class Sums:
-    """What the tests of the items of a class, or of all, add up to. Without a least gain no policy is damped, and
-        figures of today's policies are those of the items that have one.
+    """What the tests of the items of a class, or of all, add up to. Figures of today's policies are those of the items that
+    have one.
 
-        `promised` is the fill that the kept plan promised, `unmet` the share of demand by policy that was not met at once,
-        `dearer` what the kept plan cost over its promise, `beside` by policy what it cost over the kept plan. `missed` is
-        what the kept plan missed of the promised fill, of which `chance` remains in a random order and `time` does not. So
-        many items have `broken` it by more than a point, and a largest later demand `above` the largest before. `changes`
-        is how often the levels of an item change in a period, by policy.
+    `promised` is the fill that the plan promised, `unmet` the share of demand by way that was not met at once, `dearer`
+    what the plan cost over its promise, `beside` by way what it cost over the plan. `missed` is what the plan missed of
+    the promised fill, which so many items have `broken` by more than a point. `excess` is by which share its stock was
+    above what it needed to keep its promise. `changes` is how often the levels of an item change in a period, by way.
 
-        By method, `gained` is the fill above that of the kept plan, `stock` the stock in money above its stock, as a share,
-    `equal` both where they have the same fill, and `orders` those of an item in a period. `drift` is what the kept plan
-    left unmet more in the second half of the later periods than in the first."""
+    By way, `stock` is the stock in money above that of the plan, as a share, `equal` both where they have the same fill,
+    and `orders` those of an item in a period. `drift` is what the plan left unmet more in the second half of the later
+    periods than in the first."""
 
     group: str
     items: int
@@ -242,16 +245,13 @@ class Sums:
     dearer: Estimate
     beside: Mapping[str, Estimate]
     missed: Estimate
-    chance: Estimate
-    time: Estimate
     broken: int
-    above: int
     changes: Mapping[str, float]
-    gained: Mapping[str, Estimate]
     stock: Mapping[str, Estimate]
     equal: Mapping[str, Equal]
     orders: Mapping[str, float]
     drift: Estimate | None
+    excess: Estimate | None = None
 
     @property
     def met(self) -> Mapping[str, float]:
@@ -262,37 +262,36 @@ class Sums:
     def of(cls, group: str, tests: Sequence[Backtest]) -> Sums:
         """Adds up tests."""
         parts = TestGroup(tests)
-        missed, chance = parts.missed(), parts.by_chance(tests)
-        broken = above = 0
+        broken = 0
         for test in tests:
-            fill = test.kept.fill
-            broken += fill is not None and (test.kept.promised_fill or 0) - fill > SLACK
-            above += test.above is None or test.above > 1
+            fill, promised = test.planned.fill, test.planned.promised_fill or 0
+            broken += fill is not None and promised - fill > SLACK
         return cls(
             group=group,
             items=len(tests),
             promised=1 - parts.promised().value,
             dearer=parts.dearer().estimate,
-            missed=missed.estimate,
-            chance=chance.estimate,
-            time=missed.less(chance),
+            missed=parts.missed().estimate,
             broken=broken,
-            above=above,
             drift=parts.drift(),
+            excess=Sides(tests).excess(),
             **by_method(tests),
         )
 
     @property
     def verdict(self) -> Remark:
-        """Returns what breaks the promised fill, if anything does. Facts are points of fill, and numbers of items."""
+        """Returns whether the promised fill was met, beyond chance. Facts are points by which more or less was, and in percent
+        what its stock was above that of the promise, or below."""
         if not self.has_verdict:
             return Remark(FEW, {"least": LEAST_ITEMS})
-        if self.is_missed:
-            return Remark(self.breach)
-        if self.chance.low <= SLACK:
+        far = abs(self.missed.value)
+        if far <= SLACK:
             return Remark(HOLDS)
-        points = {"chance": 100 * self.chance.value, "error": 100 * self.chance.error}
-        return Remark(LUCK, points)
+        if self.excess is None or far - self.missed.quantile * self.missed.error <= 0:
+            return Remark(UNSURE)
+        points = replace(self.missed, value=far)
+        facts = in_percent(points=points, excess=self.excess)
+        return Remark(LITTLE if self.missed.value > 0 else MUCH, facts)
 
     @property
     def has_verdict(self) -> bool:
@@ -300,98 +299,38 @@ class Sums:
         return self.items >= LEAST_ITEMS
 
     @property
-    def is_missed(self) -> bool:
-        """Returns whether the kept plan missed what it promised."""
-        return self.missed.value > SLACK
-
-    @property
     def alarm(self) -> float:
         """Returns the chance that an interval of a method does not hold a figure. Several are tested, and all together are
         to be named with 5% if none gains: each has its part of that on one side (Bonferroni).
         """
-        return min(ALARM, 2 * ALARM / max(1, len(self.gained)))
+        return min(ALARM, 2 * ALARM / max(1, len(self.equal)))
 
-    def lifts(self, method: str) -> bool:
-        """Returns whether a method met more than the kept plan, beyond the error, though that missed its promise, beyond
-        chance."""
-        is_broken = self.is_missed and self.breach != UNSURE
-        return is_broken and self.gained[method].at(self.alarm).low > 0
-
-    def has_gained(self, method: str, spent: Estimate) -> bool:
-        """Returns whether a method that has spent so much has gained beyond its errors: its stock and orders cost less than
-        those of the kept plan where both meet as much at once; or it lifts what was met, and these cost at most a tenth
-        more, beyond the error too. If they never meet as much, its own stock must not be above that of the kept plan.
-
-        Of 200 planted catalogues of 15 items with six methods that are as good as the kept plan, 6% name one (2.5% for each
-        without `alarm`: 15% of catalogues); with six that meet more and cost a tenth more, 6% (99% if a cost that is only
-        not above for certain counts as none). Of 100 of 40 items these are 5 and 4%.
-        """
-        most = MOST_MORE if method in self.equal else 0.0
-        high = spent.at(self.alarm).high
-        is_cheaper = method in self.equal and high < 0
-        return is_cheaper or (self.lifts(method) and high <= most)
-
-    def spent(self, method: str) -> Estimate | None:
-        """Returns what stock and orders of a method cost more than those of the kept plan where both meet as much at once;
-        if they never do, what its own stock is above that."""
-        equal = self.equal.get(method)
-        return equal.spent if equal else self.stock.get(method)
+    def beyond(self, is_better: bool) -> list[Remark]:
+        """Returns the ways whose stock and orders cost less than those of the plan where both meet as much at once, beyond
+        their errors, or more: the cheapest first. Their facts are what stock alone, and both, are beside the plan's, in
+        percent, and at which fill."""
+        found = list[Remark]()
+        for method, equal in self.equal.items():
+            spent = equal.spent.at(self.alarm)
+            is_beyond = spent.high < 0 if is_better else spent.low > 0
+            if self.has_verdict and is_beyond:
+                found.append(Remark(method, equal.facts))
+        return sorted(found, key=spent_of)
 
     @property
     def gains(self) -> list[Remark]:
-        """Returns the methods that have gained beyond their errors, the best first: if the promise was missed, those that
-        lift what was met come before others, and then those whose stock and orders cost least. Their facts are points of
-        fill above the kept plan, what `spent` says in percent, and the fill, in percent, at which that is.
-        """
-        if not self.has_verdict:
-            return []
-        gains = list[tuple[bool, float, Remark]]()
-        for method, gained in self.gained.items():
-            spent, equal = self.spent(method), self.equal.get(method)
-            if spent is None or not self.has_gained(method, spent):
-                continue
-            facts: dict[str, Value] = {
-                "points": 100 * gained.value,
-                "points_error": 100 * gained.error,
-                "spent": 100 * spent.value,
-                "spent_error": 100 * spent.error,
-                "fill": 100 * equal.fill if equal else None,
-            }
-            rank = not self.lifts(method), spent.value
-            gains.append((*rank, Remark(method, facts)))
-        gains.sort(key=itemgetter(0, 1))
-        return [gain for _, _, gain in gains]
+        """Returns the ways that need less than the plan beyond their errors, the best first."""
+        return self.beyond(True)
 
     @property
-    def best(self) -> str | None:
-        """Returns the method that has gained most; None if none has."""
-        return next((gain.code for gain in self.gains), None)
-
-    @property
-    def breach(self) -> str:
-        """Returns the code of what has broken a promise that was missed, or that this may be chance."""
-        rare = self.chance.low > SLACK
-        time = self.time.low > 0 and self.time.value > SLACK
-        if self.missed.low > SLACK and not rare and not time:  # by both together
-            time = self.time.value > self.chance.value
-            rare = not time
-        if rare and time:
-            return BOTH
-        if rare or time:
-            return RARE if rare else TIME
-        return UNSURE
-
-
-def summed(test: Backtest) -> bool:
-    """Returns whether an item is in sums: if it is asked for, and has a plan in either order. Else those in a random
-    order would be others: items that are asked for more."""
-    return test.shuffled is not None and test.mean > 0
+    def losses(self) -> list[Remark]:
+        """Returns the ways that need more than the plan beyond their errors, the best first."""
+        return self.beyond(False)
 
 
 def is_asked(tests: Sequence[Backtest]) -> bool:
-    """Returns whether anything is asked for in the later periods, in time and in a random order."""
-    in_time = sum(sum(test.demands) for test in tests)
-    return bool(in_time and sum(sum(test.shuffled_demands) for test in tests))
+    """Returns whether anything is asked for in the later periods."""
+    return any(any(test.demands) for test in tests)
 
 
 def sides_of(tests: Sequence[Backtest]) -> Iterator[tuple[Method, Sides]]:
@@ -403,19 +342,17 @@ def sides_of(tests: Sequence[Backtest]) -> Iterator[tuple[Method, Sides]]:
 
 
 def by_method(tests: Sequence[Backtest]) -> dict[str, Any]:
-    """Returns the figures of `Sums` that are given by method. Those beside the kept plan are not of this."""
+    """Returns the figures of `Sums` that are given by method. Those beside the plan are not of this."""
     figures: dict[str, dict[str, Any]] = {name: {} for name in BY_METHOD}
     for method, sides in sides_of(tests):
         code = method.code
         own: dict[str, Any] = {
             "unmet": sides.unmet(code).estimate,
             "orders": float(sides.orders(code)[sides.items].mean()),
+            "changes": sides.changes(code),
         }
-        if method.is_changing:
-            own["changes"] = sides.changes(code)
-        if code != KEPT:
+        if code != PLANNED:
             own["beside"] = sides.beside(code).estimate
-            own["gained"] = sides.gained(code)
             own["stock"] = sides.more_stock(code)
             own["equal"] = sides.equal(code)
         for name, figure in own.items():
@@ -428,7 +365,7 @@ def sums_of(tests: Iterable[Backtest]) -> list[Sums]:
     """Returns the sums of all items, and of each class."""
     groups = defaultdict[str, list[Backtest]](list)
     for test in tests:
-        if summed(test):
+        if test.mean > 0:
             groups[ALL_ITEMS].append(test)
             if test.group:
                 groups[test.group].append(test)
