@@ -4,7 +4,7 @@ from __future__ import annotations
 from collections.abc import Mapping, Sequence
 from pathlib import Path
 
-from crnplan.crnsim import report, trajectory
+from crnplan.crnsim import report
 from crnplan.curve import exchange_curve
 from crnplan.decide import doubt, verdicts
 from crnplan.show import (
@@ -126,10 +126,6 @@ TABLES: Mapping[str, tuple[str, Sequence[Column]]] = {
     "PlannedItem.doubt": (
         "Policies under the laws that a history allows.",
         doubt.COLUMNS,
-    ),
-    "crnplan.trajectories": (
-        "Policies period by period.",
-        trajectory.COLUMNS,
     ),
     "The laws of an item": ("On its page.", item_page.LAW_COLUMNS),
     "crnplan run --out": ("A report of crnsim, exactly.", report.COLUMNS),

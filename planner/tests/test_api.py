@@ -30,7 +30,6 @@ from planner.tests.conftest import (
     heavy_of,
 )
 from planner.tests.planned_tables import whole_frame
-from planner.tests import test_layers
 
 CASES = cases_beside(__file__)
 
@@ -82,8 +81,9 @@ def test_imports_no_heavy_library() -> None:
 def test_only_the_desk_loads_its_libraries() -> None:
     """No module outside of it does, whatever else that loads."""
     code = "import importlib, sys; [*map(importlib.import_module, sys.argv[1:])]; print(*sys.modules)"
-    files = [it.relative_to(test_layers.SOURCE) for it in test_layers.FILES]
-    parts = [it.with_suffix("").parts for it in files]
+    source = Path(crn.__file__).parent
+    files = [it.relative_to(source) for it in source.rglob("*.py")]
+    parts = [it.with_suffix("").parts for it in files if it.stem != "__main__"]
     others = [".".join(["crnplan", *it]) for it in parts if it[0] != "desk"]
     loaded = subprocess.run(
         [sys.executable, "-c", code, *others],
@@ -333,7 +333,7 @@ def test_each_result_shows_itself_in_the_same_way(name: str, plan: crn.Plan) -> 
 
 
 def test_items_and_curve_of_a_plan(plan: crn.Plan) -> None:
-    """An item has the decisions' figures, a picture a line for both policies, a budget a policy for each item."""
+    """An item has the decisions' figures, a picture, a budget a policy for each item."""
     row = whole_frame(plan).set_index("item").loc["K-102"]
     frame = plan.item("K-102").frame
     for policy in ("today", "chosen"):
@@ -343,8 +343,7 @@ def test_items_and_curve_of_a_plan(plan: crn.Plan) -> None:
     assert run_saving == pytest.approx(row.run_saving)
     assert "<html" in plan.item("K-102").page
     picture = plan.item("K-102").plot()
-    assert picture.title == "Stock at the end of each week of one run"
-    assert all(f">{policy}<" in picture.svg for policy in ("today", "chosen"))
+    assert picture.title.startswith("Demand")
     curve = plan.curve(fill=0.97)
     assert curve.frame.set_index("point").loc["budget", "fill"] >= 0.97
     assert set(curve.policies.item) <= set(plan.decisions.item)

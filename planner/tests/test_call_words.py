@@ -67,7 +67,6 @@ def calls(
         "of": (crn.Scenario.of, {"demand": [1, 2], "lead": [1], **costs}),
         "changed": (scenario.changed, changes),
         "fit_demand": (crn.fit_demand, {"demand": DEMAND}),
-        "trajectories": (crn.trajectories, {**run, "periods": 2}),
         "run": (scenario.run, {"program": program}),
         "long_run": (scenario.long_run, {"program": program, "keys": 2}),
         "report": (crn.report, {"folder": plan.path, "program": program}),
@@ -104,7 +103,6 @@ SAME = [
     Same("orders_today", "stock", {1: 3}, None),
     Same("orders_today", "placed", {1: 0}, pd.DataFrame({"item": [1], "quantity": 0})),
     Same("orders_today", "date", pd.Timestamp("2026-03-02 13:00"), "2026-03-02"),
-    Same("trajectories", "periods", np.int64(2), 2),
     Same("fit_demand", "box", np.int64(2), 2),
 ]
 
@@ -151,7 +149,6 @@ REFUSED: list[tuple[str, dict[str, Any], str]] = [
     ("plan", {"laws": {1: 5}}, "laws: no table: If using all scalar"),
     ("curve", {"fill": 97}, "fill: 97 may be 97% or 97 as a share"),
     ("orders_today", {"supplier_min": {"B": "x"}}, "supplier_min: B: 'x' is no cost"),
-    ("trajectories", {"scenario": "x"}, "scenario: 'x' is no Scenario; give a"),
     ("of", {"key": 5}, "key: 5 is no key; give a text"),
     ("changed", {"costs": 5}, "costs: 5 is no dict"),
     ("changed", {"policies": 5}, "policies: 5 is no list"),

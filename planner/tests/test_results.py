@@ -268,27 +268,6 @@ def test_a_number_of_a_fraction_is_shown_as_it_is() -> None:
     assert cells_of(ItemFigures(table)._repr_html_()) == [["mean"], ["7/2"], ["-"]]
 
 
-def test_trajectories(program: Path) -> None:
-    """They have a frame with named columns, and are a sequence with a list of periods for each policy."""
-    scenario = crn.Scenario.of(
-        {0: 1, 3: 1}, [1], setup=5, holding=1, backlog=9, today=(2, 8)
-    ).changed(policies={"low": (1, 6), "high": (4, 9)})
-    found = crn.trajectories(scenario, 5, program=program)
-    assert len(found) == 2
-    assert [*found][1] == found[1] == found[1:][0]
-    frame = found.frame
-    names = "policy period ordered net_demand stock position".split()
-    assert [*frame.columns] == names
-    assert [*frame["policy"]] == ["low"] * 5 + ["high"] * 5
-    assert [*frame["period"]] == [*range(5)] * 2
-    assert [*frame["stock"]] == [period.stock for run in found for period in run]
-    # What is there at the end of a period is what was there, less what was asked for, and all that was ordered.
-    high = frame[frame["policy"] == "high"]
-    gone = (high["ordered"] - high["net_demand"]).cumsum()
-    assert [*high["position"]] == [*(scenario.initial + gone)]
-    assert pickle.loads(pickle.dumps(found)) == found
-
-
 def test_the_scenario_of_an_item(path: Path, program: Path) -> None:
     """It is run as another one is: its first policy is that of today."""
     item = crn.open_plan(path, program=program).item("I-000")

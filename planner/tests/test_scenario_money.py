@@ -37,7 +37,6 @@ CALLS: dict[str, Callable[[crn.Scenario, Path], Result]] = {
     "long run, decided": lambda it, program: it.long_run(
         keys=2, program=program
     ).decide(),
-    "trajectories": lambda it, program: crn.trajectories(it, 5, program=program),
 }
 
 

@@ -91,7 +91,7 @@ def test_loops_of_a_user_without_a_home(
 PLANNED = ["-m", "crnplan", *PLAN]
 DRAWING = f"""
 import crnplan as crn
-crn.trajectories(crn.Scenario.read("{SCENARIO}"), 4).frame.to_csv("runs.csv")
+crn.Scenario.read("{SCENARIO}").run().frame.to_csv("runs.csv")
 """
 DRAWN = ["-c", DRAWING]
 

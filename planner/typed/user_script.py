@@ -7,7 +7,6 @@ from typing import assert_type
 import pandas as pd
 
 import crnplan as crn
-from crnplan.crnsim.trajectory import Trajectories
 from crnplan.curve.exchange_curve import ExchangeCurve
 from crnplan.decide.verdicts import Decision
 from crnplan.plan.totals import Totals
@@ -107,8 +106,4 @@ def decisions(law: crn.Law) -> None:
     assert_type(report.frame, Frame)
     assert_type(report.decide(), Decision)
     assert_type(scenario.long_run([(3, 9)], keys=8), crn.LongRunReport)
-    runs = crn.trajectories(scenario, periods=5)
-    assert_type(runs, Trajectories)
-    assert_type(runs.frame, Frame)
-    assert_type(runs[0][0].stock, int)
     assert_type(crn.find_program(), Path)

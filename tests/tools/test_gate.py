@@ -221,7 +221,7 @@ def test_what_runs_beside_ends_with_the_gate(machine: Machine) -> None:
     write_script(machine.top / "tools" / "rounds.py", waiting)
     python = machine.top / ".venv" / "bin" / "python"
     # A part runs in a shell of its own, whose parent is the gate.
-    stop = BEHIND.format("rounds") + '; sleep 0.2; kill -TERM $(ps -o ppid= $PPID)'
+    stop = BEHIND.format("rounds") + "; sleep 0.2; kill -TERM $(ps -o ppid= $PPID)"
     changed(python, "part=suites", "part=suites; " + stop)
     assert gate(machine).returncode == 143
     wait_procs = psutil.wait_procs

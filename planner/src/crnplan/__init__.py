@@ -31,7 +31,6 @@ if TYPE_CHECKING:
     from .demand.fitting import fit_lead as fit_lead
     from .demand.learning import Prior as Prior, learn as learn
     from .decide.long_run import LongRunReport as LongRunReport
-    from .crnsim.trajectory import trajectories as trajectories
     from .planned import Plan as Plan, PlannedItem as PlannedItem
     from .read.items import Reading as Reading
     from .plan.how import Settings as Settings
@@ -67,7 +66,6 @@ _NAMES = {
     "demand.fitting": ("fit_lead",),
     "demand.learning": ("Prior", "learn"),
     "decide.long_run": ("LongRunReport",),
-    "crnsim.trajectory": ("trajectories",),
     "planned": ("Plan", "PlannedItem"),
     "read.items": ("Reading",),
     "plan.how": ("Settings",),

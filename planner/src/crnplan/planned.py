@@ -30,7 +30,7 @@ from .show.calendars import levels_of
 from .show.lateness import lateness_of
 from .show.today_tables import OrdersToday, orders_today
 from .show.workbook import write_workbook
-from .show.item_plots import stock_plot
+from .show.item_plots import history_plot
 from .show.item_page import ItemWords, item_page, item_summary, policies_of
 from .plan.catalogue import planned_folder
 from .plan.totals import Totals
@@ -110,8 +110,10 @@ class PlannedItem(Result):
         return ItemFigures(self.words.doubt, self.words.promise)
 
     def plot(self) -> Picture:
-        """Draws the stock of today's and the chosen policy in one run."""
-        return Picture.of([stock_plot(self.words.depth, self.words.every)])
+        """Draws the history of the item with its law."""
+        words = self.words
+        names = words.period_names
+        return Picture.of([history_plot(words.depth, names, words.every)])
 
     @property
     def page(self) -> str:

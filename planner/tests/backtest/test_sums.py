@@ -123,7 +123,8 @@ def test_ways_whose_levels_change() -> None:
     anew = {"planned", "alike", "seasonless", "followed", "still"}
     anew |= {"averaged", "smoothed", "cover"}
     tests = [made(unmet, it, **dict.fromkeys(anew, moved)) for it in range(2)]
-    assert Sums.of("", tests).changes == pytest.approx(dict.fromkeys(anew, 3 / PERIODS))
+    often = dict.fromkeys(anew, 3 / PERIODS) | {"today": 0}
+    assert Sums.of("", tests).changes == pytest.approx(often)
 
 
 def test_sums_of_todays_policies_are_of_the_items_that_have_one() -> None:

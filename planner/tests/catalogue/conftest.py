@@ -24,10 +24,11 @@ FILES = ("Bewegungen.csv", "Artikel.csv", "Bestellungen.csv")
 WORDS = [*FILES]
 REFUSED = tomllib.loads(Path(__file__).with_name("refused.toml").read_text("utf-8"))
 TABLES = ("decisions.csv", "details.csv", "rejects.csv", "summary.txt")
-# Laws as they were observed, and short runs: a third of the time.
+# Laws as they were observed, at the level of the record, and short runs: a third of the time.
 SETTINGS: dict[str, Any] = {
     "fit": "empirical",
     "borrow": "none",
+    "follow": "none",
     "periods": 64,
     "replications": 8,
 }

@@ -157,24 +157,6 @@ def test_picture_of_the_law(
             assert float(share) == pytest.approx(wanted, abs=0.006)
 
 
-def test_picture_of_the_stock(
-    whole: crn.PlannedItem, page: Page, program: Path
-) -> None:
-    """Both policies start from today's stock, and the picture says what becomes of it."""
-    policies = [it for it in whole.scenario.policies if it.name in ("today", "chosen")]
-    scenario = whole.scenario.changed(initial=20, policies=policies, periods=104)
-    runs = crn.trajectories(scenario, 104, program=program)
-    text = page.pictures["Stock at the end of each week of one run"]
-    for its, periods in zip(policies, runs):
-        stocks = [period.stock for period in periods]
-        owed, mean = sum(stock < 0 for stock in stocks), sum(stocks) / len(stocks)
-        said = (
-            f"{its.name}: from {min(stocks)} to {max(stocks)}, {mean:.1f} in the mean, items owed at the end of "
-            f"{owed} weeks"
-        )
-        assert said.replace("-", "\u2212") in text
-
-
 def test_picture_of_the_law_whatever_the_order(
     alone: Alone, whole: crn.PlannedItem, counts: list[int]
 ) -> None:

@@ -51,10 +51,6 @@ class Period(NamedTuple):
     position: int
     unmet: int = 0
 
-    def times(self, box: int) -> Period:
-        """Returns the period with so many items for each."""
-        return Period(*(box * count for count in self))
-
     def cost(self, rates: Rates) -> Fraction | int:
         """Returns what the period costs."""
         if self.stock >= 0:

@@ -69,7 +69,7 @@ class PicturePart(NamedTuple):
     @property
     def frame(self) -> int:
         """Returns how far down the legend ends and the plot begins."""
-        count = len(self.named) + len(self.plot.points) + bool(self.plot.owed)
+        count = len(self.named) + len(self.plot.points)
         return self.keys + LINE * count + GAP
 
     @property

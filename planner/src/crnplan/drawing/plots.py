@@ -167,8 +167,7 @@ class NamedPoint(NamedTuple):
 
 class Plot(NamedTuple):
     """A picture: what it shows, as a title and in figures; the marks upwards, and the marks and the name of the axis
-    across. Bars are a path, and so are gaps: periods that are not known. Up to `owed` the ground is that of items that
-    are owed."""
+    across. Bars are a path, and so are gaps: periods that are not known."""
 
     title: str
     description: str
@@ -178,7 +177,6 @@ class Plot(NamedTuple):
     lines: Sequence[Line]
     bars: str = ""
     gaps: str = ""
-    owed: float = 0
     points: Sequence[NamedPoint] = ()
 
 

@@ -1,8 +1,7 @@
 """Plans one item from a history and settings, as in a catalogue, and looks deeper than the answer.
 
 The facts, the question and the answer are those of a catalogue. Beside them are other policies, the doubt about the
-item's laws, the stock in a run, and the coming periods from today's stock, on the same random
-numbers as the answer's own run.
+item's laws, and the coming periods from today's stock, on the same random numbers as the answer's own run.
 """
 from __future__ import annotations
 
@@ -12,14 +11,12 @@ from functools import cached_property
 from operator import attrgetter
 from typing import NamedTuple
 
-from ..crnsim.periods import Period
-from ..crnsim.trajectory import trajectories
 from ..decide.doubt import Doubt
 from ..decide.verdicts import Compared, RunEstimate, ends_of, t_quantile, verdict_of
 from ..demand.checks import largest_periods, largest_places
 from ..demand.fitted import FittedLaw
 from ..errors import Refused
-from ..formats import MOST_ITEMS, POLICIES
+from ..formats import POLICIES
 from ..law import Law
 from ..policies import Policy
 from ..runs import Report, Scenario
@@ -33,8 +30,6 @@ from .checked_run import RunSample
 from .choice import LAWS, allowed_by, choice_of
 from .one import plan_one
 from .question import Levels, Question, question_of, terms_of
-
-MOST_PERIODS = 104  # of a trajectory
 
 
 class ShownPolicy(NamedTuple):
@@ -288,24 +283,6 @@ class Depth:
             return None
         boxes = round(rare.point / item.box), round(rare.level / item.box)
         return Without(rare, question.figures(boxes))
-
-    def _stock(self) -> int:
-        """Returns today's stock in boxes; the initial stock of the run if that is not known."""
-        item = self.question.item
-        if item.stock is None:
-            return self.run.initial
-        return min(max(round(item.stock / item.box), 0), MOST_ITEMS)
-
-    @cached_property
-    def trajectory(self) -> Mapping[str, list[Period]]:
-        """Returns today's and the chosen policy period by period, in boxes: replication 0 of the run, from today's
-        stock if that is known."""
-        names = TODAY, self.chosen
-        shown = [policy for policy in self.policies if policy.name in names]
-        periods = min(self.question.settings.periods, MOST_PERIODS)
-        scenario = replace(self.scenario.with_policies(shown), initial=self._stock())
-        runs = trajectories(scenario, periods, program=self.program)
-        return {policy.name: run for policy, run in zip(shown, runs)}
 
 
 def depth_of(question: Question, answer: Answer, program: str) -> Depth:

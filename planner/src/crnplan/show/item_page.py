@@ -24,7 +24,7 @@ from ..sentences import advised, exactness, part_of_year, sentence
 from .catalogue_tables import DECISION_COLUMNS, DETAIL_COLUMNS, ItemDecision
 from ..columns import columns_of
 from .calendars import ItemPart
-from .item_plots import ALONE, history_plot, law_plot, stock_plot
+from .item_plots import ALONE, history_plot, law_plot
 from .law_names import law_name, plain_words
 from ..drawing.plots import Scale
 from ..drawing.rendering import capital, number, rendered, templates
@@ -295,7 +295,6 @@ def item_facts(words: ItemWords) -> dict[str, object]:
         "history_plot": history_plot(depth, words.period_names, words.every),
         "parts": parts,
         "law_plot": law_plot(depth, words.every),
-        "stock_plot": stock_plot(depth, words.every),
     }
 
 

@@ -1,4 +1,4 @@
-"""Describes the pictures of an item's page: its history, its laws, and the stock of its policies in a run."""
+"""Describes the pictures of an item's page: its history, and its laws."""
 from __future__ import annotations
 
 import itertools
@@ -154,31 +154,4 @@ def law_plot(depth: Depth, every: str) -> Plot:
         marks=across.marks,
         across=f"{things} that a {every} asks for, at least",
         lines=[law.line(across, scale) for law in laws],
-    )
-
-
-def stock_plot(depth: Depth, every: str) -> Plot:
-    """Returns the stock of policies at the end of each period as lines with a step for each period."""
-    box = depth.question.item.box
-    stocks = {}
-    for name, periods in depth.trajectory.items():
-        stocks[name] = [period.times(box).stock for period in periods]
-    scale = Scale.of([*itertools.chain(*stocks.values())], is_whole=True)
-    lines, said = [], []
-    for name, own in stocks.items():
-        css = OF_CHOSEN if name == depth.chosen else OF_TODAY
-        lines.append(steps(name, css, own, scale))
-        least, most, mean = number(min(own)), number(max(own)), sum(own) / len(own)
-        said.append(
-            f"{name}: from {least} to {most}, {number(mean, 1)} in the mean, items owed at the end of "
-            f"{sum(stock < 0 for stock in own)} {every}s"
-        )
-    return Plot(
-        title=f"Stock at the end of each {every} of one run",
-        description=f"{len(own):,} {every}s; {'; '.join(said)}.",
-        heights=scale.heights,
-        marks=marks_of([*map(str, range(len(own)))]),
-        across=f"{every} of the run, numbered from 0",
-        lines=lines,
-        owed=scale.at(0),
     )
