@@ -340,7 +340,8 @@ def test_files_that_can_not_be_replaced(open_room: Path) -> None:
 
 SOURCE = TOP / "planner/src/crnplan"
 # What replaces, removes or writes a file by its path: functions of modules, and methods of paths and figures.
-KNOWN = tomllib.loads((Path(__file__).with_name("layers.toml")).read_text("utf-8"))
+LAYERS = TOP / "tests/sources/layers.toml"
+KNOWN = tomllib.loads(LAYERS.read_text("utf-8"))
 ALLOWED, BY_PATH = KNOWN["writes"], KNOWN["by_path"]
 OPENING, METHODS = KNOWN["code"]["opening"], KNOWN["code"]["methods"]
 
