@@ -149,15 +149,6 @@ def sweep_rows(scenario: crn.Scenario, program: str) -> Figures:
     return by_policy(map(asdict, scenario.run([*grid], program=program).rows))
 
 
-def drawn_stocks(scenario: crn.Scenario, program: str, periods: int) -> Figures:
-    """Returns all figures of each period of a replication, by policy."""
-    found = crn.trajectories(scenario, min(periods, scenario.periods), program=program)
-    return {
-        policy.name: [list(period[:4]) for period in its]
-        for policy, its in zip(scenario.policies, found)
-    }
-
-
 def plan_catalogue(
     files: Mapping[str, Any], folder: Path, program: str, jobs: int, **settings: Any
 ) -> None:

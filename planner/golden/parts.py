@@ -39,7 +39,6 @@ def scenarios(program: str, jobs: int) -> Figures:
             "run": house.run_rows(scenario, program),
             "theory": house.theory_rows(scenario),
             "long_run": house.long_run_rows(scenario, program, KEYS),
-            "trajectory": house.drawn_stocks(scenario, program, 8),
         }
     return found
 
