@@ -36,7 +36,7 @@ FIGURES = {
 def test_figures_are_the_stored_ones(part: str, program: Path) -> None:
     """No figure of a part has moved. If one should, `python -m planner.golden --store` stores it anew."""
     count, differences = compared(part, PARTS[part](str(program), 1))
-    assert count > 1_000
+    assert count > 900
     assert [*map(line_of, differences)] == []
 
 
