@@ -203,7 +203,7 @@ def test_the_page_of_an_item_in_packs(program: Path) -> None:
     assert answer.chosen.cost != pytest.approx(cost, rel=0.001)
     depth = Depth(question, answer, str(program), laws=4)
     page = item_page(ItemWords(depth, "week", Currency()))
-    assert "Their orders go up to S exactly." in page
+    assert "Orders are rounded up, in theory alone" in page
 
 
 def test_what_is_said_of_packs() -> None:
