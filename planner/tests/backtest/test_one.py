@@ -4,6 +4,7 @@ from __future__ import annotations
 import dataclasses
 from fractions import Fraction
 from pathlib import Path
+from typing import Any
 
 import numpy as np
 import pytest
@@ -13,6 +14,7 @@ from crnplan.demand.learning import Prior
 from crnplan.errors import Refused
 from crnplan.plan.answer import Answer
 from crnplan.plan.aims import Aims, Tried
+from crnplan.plan.backtest import methods
 from crnplan.plan.backtest.methods import (
     ALIKE,
     PLANNED,
@@ -30,7 +32,7 @@ from crnplan.plan.backtest.one import (
 )
 from crnplan.plan.one import plan_one
 from crnplan.plan.how import NONE, Settings
-from crnplan.plan.question import question_of
+from crnplan.plan.question import Question, question_of
 from crnplan.read.item import Item
 from crnplan.remarks import Remark
 from planner.tests.catalogue.test_damping import costed
@@ -238,3 +240,21 @@ def test_window_without_demand_keeps_the_plan() -> None:
     walk = Walk(record=40, every=40, window=40)
     assert past_of(item, walk).planned.changes == 0
     assert past_of(item, Walk(40, 40)).planned.changes == 1
+
+
+def test_a_question_that_cannot_be_asked(monkeypatch: pytest.MonkeyPatch) -> None:
+    """If none can be asked of later periods, the plan of the record stays; if none of the record, there is no test."""
+    asked, item = question_of, item_of(counts=(4, 0, 2, 9) * 15)
+
+    def refused_from(periods: int) -> None:
+        def ask(known: Item, *way: Any) -> Question:
+            if len(known.counts) >= periods:
+                raise Refused("no law fits")
+            return asked(known, *way)
+
+        monkeypatch.setattr(methods, "question_of", ask)
+
+    refused_from(41)
+    assert past_of(item, Walk(40, 10)).planned.changes == 0
+    refused_from(0)
+    assert isinstance(backtest_item(item, Walk(40, 10), ways_of(alone())), Remark)

@@ -50,6 +50,17 @@ def test_other_records_are_tried_anew(tmp_path: Path) -> None:
     assert again.text == anew.text
 
 
+def test_few_items_are_not_corrected(tmp_path: Path) -> None:
+    """If fewer items than are needed can be tried on their records, plans are those without a correction, and that is said."""
+    tables = write(tmp_path, 8)
+    corrected, plain = (
+        package.backtest(*tables, correct=correct, **WALK, **WAYS)
+        for correct in (True, False)
+    )
+    assert "plans are not corrected: 8 items" in corrected.text
+    assert corrected.table.csv == plain.table.csv
+
+
 def test_tests_that_are_not_of_the_plan(tmp_path: Path) -> None:
     """A test that was broken off says nothing. One of an older version, of other settings, or of other rows than the plan
     is old."""

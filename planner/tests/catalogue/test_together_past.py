@@ -29,7 +29,7 @@ from crnplan.read.item import Item
 from crnplan.show.backtest_tables import past_line
 from crnplan.store.files import own_folder
 from crnplan.store.means import Means
-from planner.tests.catalogue.test_together import SETTINGS, made
+from planner.tests.catalogue.test_together import BACKLOG, SETTINGS, groups_of, made
 from planner.tests.plan.items import unmet_of
 from planner.tests.show.page_reader import Page
 
@@ -118,6 +118,17 @@ def test_price_meets_the_share_on_the_past(corrected: crn.Plan, program: Path) -
 def test_few_items_are_refused(program: Path) -> None:
     with pytest.raises(crn.Refused, match="17 items can be tried on their past"):
         planned(program, together={"a": WANTED, "b": WANTED})
+
+
+def test_few_items_of_no_word_have_the_price_of_theory(program: Path) -> None:
+    """If those that are planned together by the default are too few to be tried on their past, nothing is corrected."""
+    sales, masters = made()
+    masters = masters[:-BACKLOG].drop(columns="fill")
+    read = crn.read_catalogue(sales, masters, fill=WANTED)
+    words = {**SETTINGS, "program": program}
+    plans = [crn.plan(read, correct=correct, **words) for correct in (True, False)]
+    corrected, plain = map(groups_of, plans)
+    assert plain and corrected == plain
 
 
 def test_items_of_their_own_are_corrected_too(program: Path) -> None:

@@ -113,6 +113,8 @@ def test_bounds_that_leave_few_policies() -> None:
     none = dataclasses.replace(item, bounds=OrderBounds(s_min=MOST_ITEMS + 1))
     with pytest.raises(NoPolicy):
         best_of(question_of(none, priced(1.0)))
+    with pytest.raises(NoPolicy):
+        ByPrice(question_of(none, priced(1.0)), [1.0])
 
 
 def test_demand_in_boxes() -> None:
