@@ -1,9 +1,9 @@
 """Estimates the season of a class or of an item as an index by part of the year, and tests whether there is one.
 
-Parts are two weeks long; of records by month, months. The index of a part is the mean of the ratios of its demand to that of its year (Makridakis, Wheelwright and Hyndman,
-Forecasting: Methods and Applications, third edition, 1998, section 3/4), over the items of a class (Withycombe,
-Forecasting with combined seasonal indices, 1989). It is shrunk by its error (Miller and Williams, Shrinkage estimators
-of time series seasonal factors and their effect on forecasting accuracy, 2003). Items of a class move together, so its
+Parts are two weeks long; of records by month, months. The index of a part is the mean of the ratios of its demand to
+that of its year (Makridakis, Wheelwright and Hyndman, Forecasting: Methods and Applications, third edition, 1998, section
+3/4), over the items of a class (Withycombe, Forecasting with combined seasonal indices, 1989). It is shrunk by its error
+(Miller and Williams, Shrinkage estimators of time series seasonal factors and their effect on forecasting accuracy, 2003). Items of a class move together, so its
 error is the one between years, not between items. Some may differ from it: the more of a class clearly do, the less
 each of them has to (Benjamini and Hochberg, Controlling the false discovery rate, 1995).
 
@@ -95,8 +95,9 @@ class Years(NamedTuple):
 
 
 class Index(NamedTuple):
-    """A season: the index of each part of the year from January, whose mean is 1; the p value of the test that there is none; which
-    share of what was seen is left after shrinking; in how many years it was seen; and what moves rates beside it.
+    """A season: the index of each part of the year from January, whose mean is 1; the p value of the test that there is
+    none; which share of what was seen is left after shrinking; in how many years it was seen; and what moves rates beside
+    it.
     """
 
     values: tuple[float, ...]
@@ -161,8 +162,8 @@ def chance_of(far: Floats) -> float:
 
 
 def shrunk(far: Floats) -> tuple[Floats, float]:
-    """Returns the mean of distances from what is expected, a row for each of two or more years, and the share of it that is left
-    after shrinking by its error."""
+    """Returns the mean of distances from what is expected, a row for each of two or more years, and the share of it that is
+    left after shrinking by its error."""
     mean = far.mean(axis=0)
     seen = float((mean**2).mean())
     error = float(((far - mean) ** 2).mean()) / (len(far) - 1)

@@ -52,9 +52,9 @@ class Following:
         return cls({name: weight for name, weight in weights.items() if weight})
 
     def at_level(self, item: Item, law: FittedLaw) -> AtLevel | None:
-        """Returns how an item without its season is planned by the law of its record. None for one whose law
-        is stated, that is new, is counted in boxes or has a short record, whose class does not follow its level, or whose demand would be beyond the range
-        of a law."""
+        """Returns how an item without its season is planned by the law of its record. None for one whose law is stated,
+        that is new, is counted in boxes or has a short record, whose class does not follow its level, or whose demand would
+        be beyond the range of a law."""
         counts, weight = item.known.counts, self.classes.get(item.group)
         if not weight or item.law or item.past == NEW or item.box > 1:
             return None
