@@ -31,6 +31,11 @@ SAP = {"MB51.csv": "demand", "Material.csv": "items"}
 SHOP = {"sales.csv": "demand", "items.csv": "items"}
 
 
+def drop(planner: Planner, data: bytes, name: str) -> None:
+    """Drops a file on the page, whatever becomes of it."""
+    planner.post("/files/drop", {"files": [file_of(data, name)]})
+
+
 def dropped(planner: Planner, files: Sequence[Path], way: str = "replace") -> None:
     """Drops files on the page, and waits until they are read."""
     given = [file_of(path.read_bytes(), path.name) for path in files]
@@ -95,7 +100,7 @@ def test_a_file_is_of_the_kind_of_its_columns(
 ) -> None:
     """Dates of sales may be those of orders. A file with names of items alone is no master, and one of two columns of stock
     makes a stock."""
-    planner.post("/files/drop", {"files": [file_of(table.encode(), "one.csv")]})
+    drop(planner, table.encode(), "one.csv")
     assert kinds(planner) == {"one.csv": kind}
 
 
@@ -103,12 +108,11 @@ def test_a_file_keeps_its_words(planner: Planner) -> None:
     """The name of a file in the desk has the words of its own one that are letters of ASCII, and messages have it."""
     names = "Offene Bestellungen 2.csv", "Zählung <b>%.csv", "出荷.csv"
     for name in names:
-        planner.post("/files/drop", {"files": [file_of(b"a,b\n1,2\n", name)]})
-    ours = [file.name for file in planner.desk.state.files]
-    assert ours == ["0001-offene-bestellungen-2.csv", "0002-zahlung-b.csv", "0003.csv"]
-    assert all(
-        (planner.desk.path / file.place).is_file() for file in planner.desk.state.files
-    )
+        drop(planner, b"a,b\n1,2\n", name)
+    files = planner.desk.state.files
+    ours = ["0001-offene-bestellungen-2.csv", "0002-zahlung-b.csv", "0003.csv"]
+    assert [file.name for file in files] == ours
+    assert all((planner.desk.path / file.place).is_file() for file in files)
 
 
 def test_an_encoding_is_chosen_once(planner: Planner, tmp_path: Path) -> None:
@@ -135,7 +139,7 @@ def test_a_wrong_role_is_corrected_and_kept_for_the_next_week(
     """A column that is no quantity of demand is corrected once: the file of the next week is read by the same words."""
     heading = "Part;Day;Quantity;Picked"
     first = f"{heading}\nA;2026-01-05;12;3\nA;2026-01-12;12;4\n"
-    planner.post("/files/drop", {"files": [file_of(first.encode(), "week 1.csv")]})
+    drop(planner, first.encode(), "week 1.csv")
     name = ours(planner, "week 1.csv")
     roles = {"role-0": "item", "role-1": "date", "role-2": "", "role-3": "quantity"}
     answer = planner.post(f"/files/{name}", {"kind": "demand", **roles, "unit-3": ""})
@@ -143,7 +147,7 @@ def test_a_wrong_role_is_corrected_and_kept_for_the_next_week(
     assert planner.desk.tree["demand"] == {"quantity": "Picked"}
 
     second = f"{heading}\nA;2026-01-19;12;5\n"
-    planner.post("/files/drop", {"files": [file_of(second.encode(), "week 2.csv")]})
+    drop(planner, second.encode(), "week 2.csv")
     assert kinds(planner) == {"week 2.csv": "demand"}
     page = planner.get("/files").text
     assert chosen_in(page, "role-3") == "quantity" and chosen_in(page, "role-2") == ""
@@ -160,7 +164,7 @@ def chosen_in(page: str, field: str) -> str:
 def test_units_and_signs_are_chosen_and_taken_back(planner: Planner) -> None:
     """What is chosen of a column, its dates and its file stands in crnplan.toml until it is left to the file again."""
     table = b"item;lead;price;since\nA;14;1.234;03/04/2026\n"
-    planner.post("/files/drop", {"files": [file_of(table, "masters.csv")]})
+    drop(planner, table, "masters.csv")
     name = ours(planner, "masters.csv")
     roles = {"kind": "items", "role-1": "lead", "role-2": "price", "role-3": "since"}
     chosen = {"unit-1": "day", "unit-2": "100", "decimal-2": ",", "first": "month"}
@@ -181,7 +185,7 @@ def test_units_and_signs_are_chosen_and_taken_back(planner: Planner) -> None:
 def test_two_columns_of_a_role_are_refused(planner: Planner) -> None:
     """Nothing is kept of a form by which two columns have one role, or that names what is not there."""
     table = b"item,date,quantity\nA,2026-01-05,1\n"
-    planner.post("/files/drop", {"files": [file_of(table, "demand.csv")]})
+    drop(planner, table, "demand.csv")
     before, name = planner.desk.tree, ours(planner, "demand.csv")
     for fields in (
         {"kind": "demand", "role-1": "quantity", "role-2": "quantity"},
@@ -235,7 +239,7 @@ def test_a_sheet_is_chosen_once(planner: Planner, tmp_path: Path) -> None:
     (file,) = planner.desk.state.files
     assert (file.kind, file.sheet) == ("stock", "Stock")
     broken = path.read_bytes()[:200]
-    planner.post("/files/drop", {"files": [file_of(broken, "broken.xlsx")]})
+    drop(planner, broken, "broken.xlsx")
     assert kinds(planner)["broken.xlsx"] == "unknown"
     assert planner.get("/files").status_code == 200
 
@@ -248,7 +252,7 @@ def test_hostile_headings_and_names_stay_texts(planner: Planner) -> None:
     heading = f'item,date,quantity,"{HOSTILE.replace(chr(34), chr(34) * 2)}"'
     table = f"{heading}\nA,2026-01-05,1,=1+1\n\u202eB,2026-01-05,1,../../x\n"
     name = "../../../etc/<img src=x onerror=alert(1)>.csv"
-    planner.post("/files/drop", {"files": [file_of(table.encode(), name)]})
+    drop(planner, table.encode(), name)
     (file,) = planner.desk.state.files
     assert file.name == "0001-img-src-x-onerror-alert-1.csv"
     assert file.place == f"files/demand/{file.name}"
@@ -269,13 +273,13 @@ def test_a_likely_encoding_is_offered(planner: Planner, tmp_path: Path) -> None:
     page = planner.get("/files").text
     _, _, masters = page.partition("Material.csv</h2>")
     assert chosen_in(masters, "encoding") == "cp1252" and "Höchstbestand" in masters
-    assert "Likely it is cp1252" in page
+    assert "Likely it is cp1252" in page and "None" not in page
 
 
 def test_rows_that_cannot_be_read_are_said(planner: Planner) -> None:
     """A quote that is not closed is said beside the rows above it."""
     table = b'item,date,quantity\nA,2026-01-05,1\nB,"2026-01-05"x,2\n'
-    planner.post("/files/drop", {"files": [file_of(table, "demand.csv")]})
+    drop(planner, table, "demand.csv")
     page = planner.get("/files").text
     assert kinds(planner) == {"demand.csv": "demand"}
     assert '<td class="left data">A</td>' in page and "quote" in page
@@ -362,7 +366,7 @@ def test_words_of_the_page_fit_what_can_be_wrong(language: str) -> None:
 def test_a_heading_that_says_nothing_is_known_the_next_week(planner: Planner) -> None:
     """Columns without usual names are chosen once: a file with the same heading is then of the same kind."""
     table = b"c1;c2;c3\nA;2026-01-05;1\nB;2026-01-05;2\n"
-    planner.post("/files/drop", {"files": [file_of(table, "1.csv")]})
+    drop(planner, table, "1.csv")
     assert kinds(planner) == {"1.csv": "unknown"}
     name = ours(planner, "1.csv")
     roles = {"role-0": "item", "role-1": "date", "role-2": "quantity"}
@@ -370,7 +374,7 @@ def test_a_heading_that_says_nothing_is_known_the_next_week(planner: Planner) ->
         form = {"kind": "demand", **form}
         assert planner.post(f"/files/{name}", form).status_code == 303
     assert planner.desk.tree["demand"] == {"item": "c1", "date": "c2", "quantity": "c3"}
-    planner.post("/files/drop", {"files": [file_of(table, "2.csv")]})
+    drop(planner, table, "2.csv")
     assert kinds(planner) == {"2.csv": "demand"}
 
 
@@ -384,7 +388,7 @@ def test_a_kind_is_chosen_once(planner: Planner) -> None:
     ]
     seen = []
     for data, called in dropped:
-        planner.post("/files/drop", {"files": [file_of(data, called)]})
+        drop(planner, data, called)
         seen.append(kinds(planner))
         if called == "new.csv":
             page = planner.get("/files").text
@@ -399,7 +403,7 @@ def test_another_system_is_known_beside_stated_columns(planner: Planner) -> None
     """Columns that were chosen of one system hide nothing of another one: its file is known, and what to choose is said."""
     planner.desk.keep_words({"demand": {"quantity": "Picked"}})
     table = b"item,date,quantity\nA,2026-01-05,1\n"
-    planner.post("/files/drop", {"files": [file_of(table, "other.csv")]})
+    drop(planner, table, "other.csv")
     assert kinds(planner) == {"other.csv": "demand"}
     assert "The column Picked, which was chosen" in planner.get("/files").text
     form = {"kind": "demand", "role-2": "quantity"}
@@ -410,7 +414,7 @@ def test_another_system_is_known_beside_stated_columns(planner: Planner) -> None
 def test_a_column_that_is_found_may_be_left(planner: Planner) -> None:
     """A column with a usual name that is not used is stated as none, and stays so when the form is saved again."""
     table = b"item,date,quantity,returned\nA,2026-01-05,1,0\n"
-    planner.post("/files/drop", {"files": [file_of(table, "demand.csv")]})
+    drop(planner, table, "demand.csv")
     form = {"kind": "demand", "role-3": ""}
     for _ in range(2):
         planner.post(f"/files/{ours(planner, 'demand.csv')}", form)

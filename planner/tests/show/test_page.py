@@ -108,7 +108,7 @@ def test_chances_stand_in_their_order(chances: list[float]) -> None:
 @pytest.mark.parametrize(
     "values, inner",
     [
-        ([20], []),
+        ([200], []),
         ([-4], []),
         ([150_000], ["50,000", "100,000"]),
         ([-1_500], ["\u22121,000", "\u2212500"]),
