@@ -212,7 +212,7 @@ def test_notebooks_show_few_rows_and_columns() -> None:
     assert shown[0][0] == "x" * 60 + " .."
     assert page.startswith("<p>5,000 rows</p>")
     assert (
-        f"<p>and 4,990 more rows and {len(columns) - 8} more columns, in frame</p>"
+        f"</table>\n<p>and 4,990 more rows and {len(columns) - 8} more columns, in frame</p>"
         in page
     )
     assert len(page.encode()) < 50_000
