@@ -129,10 +129,11 @@ def test_intervals_are_those_of_the_item(whole: crn.PlannedItem, page: Page) -> 
 def test_pictures_say_their_figures(
     whole: crn.PlannedItem, page: Page, counts: list[int]
 ) -> None:
-    """The picture of the history says in words what the law of the demand is, and the page what the demand was."""
+    """The picture of the history and its legend say what the law of the demand is, and the page what the demand was."""
     text = page.pictures["Demand by week, and the law that it is planned by"]
     mean = f"{float(whole.scenario.demand.mean):.2f} a week"
     assert f"mean of the law: {mean}; 99 of 100 weeks by the law: at most " in text
+    assert f"mean of the law: {mean}</span>" in page.source
     assert f"{len(counts)} weeks, {sum(counts):,} items" in page.words
     (bars,) = re.findall('class="bar" d="([^"]+)"', page.source)
     assert bars.count("M") == len(counts) - counts.count(0)
