@@ -1,6 +1,7 @@
 """Tests the rows that `where` chooses, and what is said of columns of places and states. pandas adds up the source."""
 from __future__ import annotations
 
+import re
 from pathlib import Path
 from typing import Any
 
@@ -144,6 +145,20 @@ def test_conditions() -> None:
     assert Condition.of("Loc.x = 1") == ("", "Loc.x", "1")
     assert Condition.of("on_order.State=") == ("on_order", "State", "")
     assert conditions_of({"a": 1, "b": ["x", "y"]}) == ("a=1", "b=x", "b=y")
+
+
+@pytest.mark.parametrize("column, values, taken", CASES["columns"])
+def test_columns_of_demand(
+    tmp_path: Path, frame: pd.DataFrame, column: str, values: Any, taken: Any
+) -> None:
+    """A column that may say which rows are sold, or counts something else, is asked about until `where` takes some or all."""
+    frame[column] = [values[row // 2 % 2] for row in range(len(frame))]
+    where = {"demand": {column: taken}} if taken else ()
+    if taken:
+        with pytest.raises(crn.Refused, match=re.escape(repr(column))):
+            read(tmp_path, frame)
+    chosen = frame[frame[column].isin(taken or values)]
+    assert sold(read(tmp_path, frame, where=where)) == sums(chosen)
 
 
 @pytest.mark.parametrize("use", CASES["uses"])

@@ -27,7 +27,7 @@ from .marks import said_of_marks
 from .columns import converted, is_converted
 from .controls import Controls, controls_in, counts_of, together, tree_of
 from .defaults import CLASS, DEFAULT, ORDERS, SOURCES, distinct
-from .table_files import FiledTable, WholeTables, read_tables
+from .table_files import FiledTable, WholeTables, read_tables, refuse_unclear
 from .table_facts import found_of
 from .item import NEW, NO_DEMAND, PHASE_OUT, PLANNED, STOPPED, Item
 from .items import Counts, FileCounts, Reject, Reading
@@ -283,6 +283,7 @@ def read_into(
         room = folder.room()
         with Means(1 if parts == 1 else jobs).workers() as workers:
             filed = read_tables(sheets, workers, room, parts, sizes)
+            refuse_unclear(filed)
             whole = WholeTables.of(filed, words)
             refuse_bare_times(filed, whole)
             read = read_parts(filed, whole, words, workers, room, parts)

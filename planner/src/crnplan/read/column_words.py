@@ -28,9 +28,9 @@ ROLES_OF: Mapping[str, set[str]] = {
     RECEIVED: {"received"},
     CANCELLED: {"cancelled"},
 }
-# What is asked of a column: which lines are closed, which kind of stock is meant, what its numbers are, and what its marks
-# say, if it has some.
-CLOSED, KIND, COUNT, MARK = "closed", "kind", "count", "mark"
+# What is asked of a column: which lines are closed, which kind of stock is meant, which rows of demand count, what its
+# numbers are, and what its marks say, if it has some.
+CLOSED, KIND, ROWS, COUNT, MARK = "closed", "kind", "rows", "count", "mark"
 # Whether a text says yes or no.
 MARKS: Mapping[str, bool] = {
     word: mark == "yes" for mark, words in HEADINGS["marks"].items() for word in words
@@ -41,6 +41,9 @@ WORDS = {
 ENDS = tuple(HEADINGS["parts"]["ends"])
 BASE = {*HEADINGS["base"]["words"]}
 KNOWN = WORDS["quantity"].union(*(WORDS[part] for part in PARTS))
+# Words of what came back, which demand may have beside it.
+RETURNED = {it for it in HEADINGS["demand"]["returned"] if " " not in it} | {"return"}
+AMOUNT = re.compile("[2-9]|[1-9][0-9 ]+|0 [0-9]+")  # a plain text that is no mark
 SHORT = re.compile("(?<=[a-z])['\u2019](?=d\\b)")  # as in Rcv'd
 CAMEL = re.compile("(?<=[a-z])(?=[A-Z])")  # between the words of QtyReceived
 
@@ -157,6 +160,22 @@ def is_state(words: Collection[str]) -> bool:
     has_state = any(word.endswith("status") for word in words)
     has_state |= not WORDS["status"].isdisjoint(words)
     return has_state and WORDS["other"].isdisjoint(words)
+
+
+def asked_of_demand(name: str, first: Collection[str]) -> str:
+    """Returns what is asked of a column of demand without a role, with the plain texts of its first cells: which rows count,
+    what its numbers beside the quantity are, or what its marks say."""
+    said = {*words_of(name)} - WORDS["filling"]
+    telling = WORDS[CLOSED] | WORDS[ROWS] | RETURNED
+    is_telling = said & telling and said <= telling | WORDS["marking"]
+    if is_telling or plain_name(name) in WORDS[CLOSED]:
+        return COUNT if any(map(AMOUNT.fullmatch, first)) else ROWS
+    part = part_of(name)
+    if part == OTHER and (said & RETURNED or not said & WORDS["later"]):
+        return COUNT
+    if part or said & (WORDS["none"] | WORDS["harmless"]):
+        return COUNT if part == CANCELLED else ""
+    return MARK if MARKS.keys() >= {*first} else ""
 
 
 def asked_of_order(name: str, parts: Collection[str]) -> str:

@@ -40,6 +40,7 @@ if TYPE_CHECKING:
 ROLES = {kind: ["item", *HEADINGS[kind]] for kind in AMOUNTS}
 # Tables whose columns may also have the names of others.
 LIKE = {
+    "demand": ["today"],
     "stock": ["today"],
     "on_order": ["today"],
     "placed": ["on_order", "today"],

@@ -28,7 +28,9 @@ from .column_words import (
     ORDERED,
     RECEIVED,
     ROLES_OF,
+    ROWS,
     WORDS,
+    asked_of_demand,
     asked_of_order,
     asked_of_stock,
     is_base,
@@ -170,10 +172,12 @@ def filed_in(kind: str, sheet: Sheet) -> int | None:
 
 
 def asked_in(kind: str, sheet: Sheet, stated: Mapping[str, str]) -> dict[str, str]:
-    """Returns what is asked of the columns of open orders and of stock, by name. A number is not asked about if it may have
-    a role that is stated, or of which a column in base units is there."""
+    """Returns what is asked of the columns of demand, open orders and stock, by name. A number is not asked about if it may
+    have a role that is stated, or of which a column in base units is there."""
     columns = sheet.columns
     asked = dict[str, str]()
+    if kind == "demand":
+        return asked_in_demand(sheet)
     if kind not in ("on_order", "stock"):
         return asked
     known = {role for role in columns if is_base(columns[role].name)} | stated.keys()
@@ -192,6 +196,21 @@ def asked_in(kind: str, sheet: Sheet, stated: Mapping[str, str]) -> dict[str, st
             use = asked_of_stock(name, columns["stock"].name)
         is_known = use == COUNT and known & roles or use == MARK and use_of(name)
         if use and not is_known:
+            asked[name] = use
+    return asked
+
+
+def asked_in_demand(sheet: Sheet) -> dict[str, str]:
+    """Returns what is asked of the columns of demand, by name. The first rows tell which may have marks."""
+    asked = dict[str, str]()
+    for place, name in enumerate(sheet.heading):
+        first = {
+            plain_name(text_of(cells[place]))
+            for _, cells in sheet.first_rows
+            if place < len(cells)
+        }
+        use = asked_of_demand(name, first)
+        if use and place not in sheet.used and not use_of(name):
             asked[name] = use
     return asked
 
@@ -314,18 +333,24 @@ def sizes_of(rows: Rows, factors: Mapping[str, int]) -> dict[str, int]:
     return {**sizes, **factors}
 
 
-def questions(kind: str, rows: Rows, sizes: Mapping[str, int]) -> Iterator[Remark]:
-    """Yields what must be asked of the columns of a table, whose units of measure have these sizes."""
-    for name, mark in rows.sheet.marks.items():
-        values, own = rows.counts(name), mark.column.name
+def asked_of_marks(kind: str, table: KeptTable) -> Iterator[Remark]:
+    """Yields what must be asked of the columns of a table that may say which rows count, or count something else."""
+    for name, mark in table.sheet.marks.items():
+        values, own = table.counts(name), mark.column.name
         unclear = {cell for cell in values if not is_clear(mark.use, own, cell)}
-        if mark.use == STATE and kind == "on_order" and len(values) > 1:
+        is_state = mark.use == ROWS or mark.use == STATE and kind == "on_order"
+        if is_state and len(values) > 1:
             unclear = {*values}
         if mark.use == MARK:
             unclear = ticked(values)
         if unclear:
             code = "unknown number" if mark.use == COUNT else "unknown state"
             yield question(code, kind, own, values, unclear)
+
+
+def questions(kind: str, rows: Rows, sizes: Mapping[str, int]) -> Iterator[Remark]:
+    """Yields what must be asked of the columns of a table, whose units of measure have these sizes."""
+    yield from asked_of_marks(kind, rows)
     units = rows.counts("measure")
     unclear = {unit for unit in units if text_of(unit) not in sizes}
     if unclear and "factor" not in rows.columns:

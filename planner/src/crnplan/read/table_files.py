@@ -34,6 +34,7 @@ from .columns import MONEY
 from .dates import DateReader
 from .defaults import currency_in
 from .law_forms import LAWS
+from .marks import asked_of_marks
 from .observed import Day, Record, check_ends, record_of
 from .repeated import sums_of_columns
 from .rows import Rows, amount_reader, date_reader
@@ -169,6 +170,17 @@ def check_readable(table: FiledTable, reader: DateReader) -> None:
         facts |= {"kind": "demand", "other": column.name}
         wrong = Remark("swapped columns", facts)
     raise RefusedFaults([Fault(wrong, sheet.name)])
+
+
+def refuse_unclear(tables: Mapping[str, FiledTable]) -> None:
+    """Raises RefusedFaults with what must be asked of the columns of tables: whether rows count, or numbers beside them."""
+    faults = [
+        table.sheet.fault_of(remark)
+        for kind, table in tables.items()
+        for remark in asked_of_marks(kind, table)
+    ]
+    if faults:
+        raise RefusedFaults(faults)
 
 
 def currencies_of(table: FiledTable, stated: str) -> dict[str, str]:
