@@ -178,6 +178,7 @@ def test_page(made: Path) -> None:
     for row in sums[1:]:
         own = written[row[0].replace("all", "")]
         assert [row[1], *row[3:5]] == [own["verdict"], own["items"], own["broken"]]
+        assert f"  {own['broken']} of {own['items']} items missed the promised" in text
         shares = [100 * float(own[name]) for name in ("promised_fill", "fill_planned")]
         shown = [float(cell.partition(" ± ")[0].rstrip("%")) for cell in row[5:7]]
         assert shown == pytest.approx(shares, abs=0.06)
@@ -209,8 +210,10 @@ def test_no_item_in_sums(items: Mapping[str, Item], tmp_path: Path) -> None:
         == tests.text.splitlines()[0]
         == "No item has a test on its own past."
     )
-    assert "items: 2 named = 1 tested + 1 without a test" in tests.text
-    assert "0 that can't be planned" in tests.text
+    assert (
+        "items: 2 named = 1 tested + 1 without a test (backtest.csv says why) + 0 that can't be planned"
+        in tests.text
+    )
     assert (
         tests.frame.set_index("item")
         .left_out["I-001"]

@@ -111,8 +111,10 @@ def test_price_meets_the_share_on_the_past(corrected: crn.Plan, program: Path) -
     own = corrected.details[lambda row: row.fill_together.notna()]
     assert own.fill_aimed.isna().all()
     corrected.report()
-    said = f"such plans met {price.past:.2%} of demand at once, and {price.promised:.2%} by"
-    assert said in Page(Path(corrected.path) / "report.html").words
+    words = Page(Path(corrected.path) / "report.html").words
+    said = f"{price.past:.2%} of demand at once, and {price.promised:.2%} by"
+    assert f"such plans met {said}" in words
+    assert "Met on the past: with the price on quarters of records" in words
 
 
 def test_few_items_are_refused(program: Path) -> None:

@@ -99,9 +99,11 @@ def test_a_file_is_of_the_kind_of_its_columns(
     table: str, kind: str, planner: Planner
 ) -> None:
     """Dates of sales may be those of orders. A file with names of items alone is no master, and one of two columns of stock
-    makes a stock."""
+    makes a stock, as which it is shown."""
     drop(planner, table.encode(), "one.csv")
     assert kinds(planner) == {"one.csv": kind}
+    page = planner.get("/files").text
+    assert (">stock of today: one.csv<" in page) == (kind == "stock")
 
 
 def test_a_file_keeps_its_words(planner: Planner) -> None:
@@ -256,10 +258,8 @@ def test_hostile_headings_and_names_stay_texts(planner: Planner) -> None:
     (file,) = planner.desk.state.files
     assert file.name == "0001-img-src-x-onerror-alert-1.csv"
     assert file.place == f"files/demand/{file.name}"
-    for form in (
-        {"kind": "demand", "role-3": "returned"},
-        {"kind": "demand", "role-3": "promotion"},
-    ):
+    for role in ("returned", "promotion"):
+        form = {"kind": "demand", "role-3": role}
         assert planner.post(f"/files/{file.name}", form).status_code == 303
     text = planner.get("/files").text
     assert "<script>alert" not in text and "<img" not in text and ">49<" not in text
@@ -332,9 +332,8 @@ def test_what_could_not_be_read_stands_at_the_top(planner: Planner) -> None:
         file_of(b"item,lead (weeks)\nA,2\n", "m.csv"),
     ]
     planner.post("/files/drop", {"files": files})
-    for name in (ours(planner, "d.csv"), ours(planner, "m.csv")):
-        kind = "demand" if name.startswith("0001") else "items"
-        planner.post(f"/files/{name}", {"kind": kind})
+    for called, kind in (("d.csv", "demand"), ("m.csv", "items")):
+        planner.post(f"/files/{ours(planner, called)}", {"kind": kind})
     assert "no column looks like the setup" in planner.wait()[0]
     page = planner.get("/files").text
     assert 'role="alert"' in page and "No column says what an order costs" in page
@@ -370,9 +369,10 @@ def test_a_heading_that_says_nothing_is_known_the_next_week(planner: Planner) ->
     assert kinds(planner) == {"1.csv": "unknown"}
     name = ours(planner, "1.csv")
     roles = {"role-0": "item", "role-1": "date", "role-2": "quantity"}
-    for form in ({}, roles):
-        form = {"kind": "demand", **form}
-        assert planner.post(f"/files/{name}", form).status_code == 303
+    for own in ({}, roles):
+        assert (
+            planner.post(f"/files/{name}", {"kind": "demand", **own}).status_code == 303
+        )
     assert planner.desk.tree["demand"] == {"item": "c1", "date": "c2", "quantity": "c3"}
     drop(planner, table, "2.csv")
     assert kinds(planner) == {"2.csv": "demand"}
@@ -381,13 +381,12 @@ def test_a_heading_that_says_nothing_is_known_the_next_week(planner: Planner) ->
 def test_a_kind_is_chosen_once(planner: Planner) -> None:
     """Until the kind of a file is chosen, the page says which earlier files are in use. The file then replaces the one of its
     kind, and the next one with its heading is known."""
-    dropped = [
+    seen = []
+    for data, called in (
         (b"item,setup,holding\nA,1,2\n", "old.csv"),
         (b"Artikel-Kennung;Kosten\nA;1\n", "new.csv"),
         (b"Artikel-Kennung;Kosten\nA;2\n", "next.csv"),
-    ]
-    seen = []
-    for data, called in dropped:
+    ):
         drop(planner, data, called)
         seen.append(kinds(planner))
         if called == "new.csv":
@@ -395,8 +394,11 @@ def test_a_kind_is_chosen_once(planner: Planner) -> None:
             assert "in use: masters of items (<bdi>old.csv</bdi>)." in page
             planner.post(f"/files/{ours(planner, called)}", {"kind": "items"})
             assert kinds(planner) == {"new.csv": "items"}
-    assert seen[0] == {"old.csv": "items"}
-    assert seen[1:] == [{**seen[0], "new.csv": "unknown"}, {"next.csv": "items"}]
+    assert seen == [
+        {"old.csv": "items"},
+        {"old.csv": "items", "new.csv": "unknown"},
+        {"next.csv": "items"},
+    ]
 
 
 def test_another_system_is_known_beside_stated_columns(planner: Planner) -> None:

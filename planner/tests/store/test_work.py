@@ -25,6 +25,7 @@ from crnplan.store.work import Known, Work
 
 NAMES = sorted(f'{place:02} "ä",' for place in range(40))
 KNOWN = NAMES[7]
+NUMBERS = [number for number in range(40) if number != 7]
 Squares = Store[Correction]
 
 
@@ -86,6 +87,7 @@ def hanging(number: int, folder: Path, added: int) -> Correction | Remark:
 def killing(number: int, folder: Path, added: int) -> Correction | Remark:
     """Kills its process at the first number of a batch, once or each time."""
     if number == 25 and ((folder / "always").exists() or once(folder)):
+        (folder / f"killed {os.getpid()}").touch()
         os.kill(os.getpid(), signal.SIGKILL)
     return squares(number, folder, added)
 
@@ -139,15 +141,15 @@ def test_any_batches_and_workers(
     no item is asked again."""
     for name in ("BATCH", "LOOKED_AT"):
         monkeypatch.setattr(work, name, size)
-    folder, numbers = store.path.parent, [number for number in range(40) if number != 7]
+    folder = store.path.parent
     assert done(store, count=count) == 1
-    assert asked(folder) == numbers
+    assert asked(folder) == NUMBERS
     assert done(store, count=count) == 40
     assert asked(folder) == []
     assert done(store, count=count, asking=Asking((*NAMES[1:], "90"))) == 39
     assert asked(folder) == [90]
     assert done(store, count=count, asking=Asking(added=1)) == 1
-    assert asked(folder) == numbers
+    assert asked(folder) == NUMBERS
 
 
 def test_large_batches(store: Squares) -> None:
@@ -207,12 +209,13 @@ def test_a_worker_that_is_killed(store: Squares) -> None:
     """Another one gets its batch. If each one ends, the run does, and what others did is kept."""
     folder = store.path.parent
     assert done(store, killing, 2) == 1
-    assert asked(folder) == [number for number in range(40) if number != 7]
+    assert asked(folder) == NUMBERS
     (folder / "always").touch()
     with pytest.raises(
         Failed, match="have ended by force 4 times .was there enough memory"
     ):
         done(store, killing, 2, Asking(added=1))
+    assert len([*folder.glob("killed *")]) == 1 + 4
     numbers = {*asked(folder)}
     assert {*range(16)} - {7} <= numbers
     assert 25 not in numbers
