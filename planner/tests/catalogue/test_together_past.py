@@ -108,18 +108,26 @@ def test_price_meets_the_share_on_the_past(corrected: crn.Plan, program: Path) -
     assert plain.past is None and plain.tried == 0
     said = corrected.text.split("planned together")[1].splitlines()[3].split()
     assert said[2:5] == ["90.00%", f"{price.promised:.2%}", f"{price.past:.2%}"]
-    own = corrected.details[lambda row: row.fill_together.notna()]
-    assert own.fill_aimed.isna().all()
-    corrected.report()
-    words = Page(Path(corrected.path) / "report.html").words
+    rows = corrected.details
+    assert rows.fill_aimed[rows.fill_together.notna()].isna().all()
+    words = Page(corrected.report()).words
     said = f"{price.past:.2%} of demand at once, and {price.promised:.2%} by"
     assert f"such plans met {said}" in words
     assert "Met on the past: with the price on quarters of records" in words
 
 
-def test_few_items_are_refused(program: Path) -> None:
+def test_few_items_of_a_class_are_refused(
+    program: Path, monkeypatch: pytest.MonkeyPatch
+) -> None:
+    """With enough items, the page says of each class what it met on its past."""
+    both = {"a": WANTED, "b": WANTED}
     with pytest.raises(crn.Refused, match="17 items can be tried on their past"):
-        planned(program, together={"a": WANTED, "b": WANTED})
+        planned(program, together=both)
+    monkeypatch.setattr(together, "LEAST_ITEMS", 17)
+    plan = planned(program, together=both)
+    words = Page(plan.report()).words
+    for name in both:
+        assert f"17 items are planned together (class {name}): on the" in words
 
 
 def test_few_items_of_no_word_have_the_price_of_theory(program: Path) -> None:
@@ -127,9 +135,10 @@ def test_few_items_of_no_word_have_the_price_of_theory(program: Path) -> None:
     sales, masters = made()
     masters = masters[:-BACKLOG].drop(columns="fill")
     read = crn.read_catalogue(sales, masters, fill=WANTED)
-    words = {**SETTINGS, "program": program}
-    plans = [crn.plan(read, correct=correct, **words) for correct in (True, False)]
-    corrected, plain = map(groups_of, plans)
+    corrected, plain = (
+        groups_of(crn.plan(read, correct=is_on, program=program, **SETTINGS))
+        for is_on in (True, False)
+    )
     assert plain and corrected == plain
 
 
@@ -187,17 +196,17 @@ def test_many_items_are_drawn(
     assert met_by(members(corrected), drawn.price) == pytest.approx(WANTED, abs=0.01)
 
 
-def test_backtests_find_prices_on_records(program: Path, tmp_path: Path) -> None:
+def test_backtests_find_prices_on_records(program: Path) -> None:
     """What was found is from all periods, so a folder is tested with prices that were found on records, and with each item
     alike. Items with a price and without a backlog cost count by their value."""
-    words = {**SETTINGS, "together": WANTED, "program": program}
-    plan = crn.plan(*made(), out=tmp_path / "plan", **words)
+    plan = crn.plan(*made(), together=WANTED, program=program, **SETTINGS)
     with planned_folder(plan.path) as folder:
         settings = folder.settings
     with own_folder(plan.path, CATALOGUE) as own:
         tests = write_backtest(own, settings, Walk(26, 13, 26), Means(1))
-    walk = {"record": 26, "every": 13, "window": 26}
-    plain = crn.backtest(*made(), **walk, **ALONE, together=WANTED)
+    plain = crn.backtest(
+        *made(), record=26, every=13, window=26, **ALONE, together=WANTED
+    )
     pd.testing.assert_frame_equal(tests.frame, plain.frame)
     assert tests.frame["fill_alike"].notna().all()
     with planned_folder(plan.path) as folder:
@@ -214,8 +223,7 @@ def test_price_is_never_below_that_of_theory(
     monkeypatch.setattr(
         together, "met_on_past", lambda *known: np.linspace(0.95, 1, 26)
     )
-    price, plain = (
-        price_in(planned(program, correct=is_on)) for is_on in (True, False)
-    )
+    price = price_in(planned(program))
+    plain = price_in(planned(program, correct=False))
     assert price.price == plain.price and price.promised == plain.promised
     assert price.past and 0.95 <= price.past < 0.953
