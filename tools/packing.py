@@ -104,7 +104,7 @@ Keywords=stock;inventory;demand;orders;
 """
 CRNPLAN = """#!/usr/bin/python3
 import sys
-from crnplan.cli import main
+from crnplan.__main__ import main
 sys.exit(main())
 """
 CONTROL = """Package: crnsim

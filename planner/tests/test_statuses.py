@@ -21,7 +21,7 @@ import pytest
 from crnplan.errors import CrnplanError, Failed, Fault, RefusedFaults
 from crnplan.runs import Scenario
 from crnplan.store.files import faults_of, own_folder
-from planner.tests.conftest import Command
+from planner.tests.conftest import Command, heed_interrupts
 from planner.tests.test_folders import CATALOGUE, room
 
 __all__ = ["room"]
@@ -37,6 +37,14 @@ def run(
         stdin=subprocess.DEVNULL,
         **{"stdout": subprocess.PIPE, "stderr": subprocess.PIPE, **streams},
     )  # type: ignore[call-overload]
+
+
+def test_an_interrupt_while_the_command_loads(tmp_path: Path) -> None:
+    """It ends the command with its status and a word, and shows nothing of Python."""
+    (tmp_path / "click.py").write_text("import signal; signal.raise_signal(2)")
+    others = {**os.environ, "PYTHONPATH": str(tmp_path)}
+    ended = run(["plan"], env=others, preexec_fn=heed_interrupts)
+    assert (ended.returncode, ended.stderr) == (130, b"crnplan: interrupted\n")
 
 
 @pytest.mark.parametrize(

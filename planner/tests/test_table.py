@@ -45,7 +45,21 @@ ROWS: list[list[TableCell]] = [
     ["-", -4, -0.001, 1, 5],
 ]
 # What a spreadsheet would run, by OWASP; and what it would not.
-RUN = ("=1+1", "+1+1", "-1+1", "@SUM(A1)", "\t=1", "\r=1", "-cmd|' /C calc'!A0", "+A1")
+RUN = (
+    "=1+1",
+    "+1+1",
+    "-1+1",
+    "@SUM(A1)",
+    "\t=1",
+    "\r=1",
+    "\n=1",
+    "＝1+1",
+    "＋A1",
+    "－A1",
+    "＠A1",
+    "-cmd|' /C calc'!A0",
+    "+A1",
+)
 PLAIN = ("-5", "+49", "-0.5", "-", "A=1", "1-2", "", "a@b", "'x")
 
 

@@ -42,7 +42,7 @@ NAMED_UNITS = {
 MOST_ROWS, MOST_COLUMNS, MOST_LETTERS, MOST_NOTES = 10, 8, 60, 20
 SHOWN = {"share": ".1%", "orders a period": ".4f"}
 # How a text begins that a spreadsheet would run, unless it is a number or a mark for no figure.
-RUN = re.compile(r"[=@\t\r]|[+-](?![0-9.,]*$)")
+RUN = re.compile(r"[=@＝＠\t\r\n]|[+＋－-](?![0-9.,]*$)")
 
 
 # The signs of a CSV file by its style: between cells, of decimals, and at its beginning. A system imports orders in the

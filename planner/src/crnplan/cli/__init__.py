@@ -10,6 +10,7 @@ import importlib
 import io
 import os
 import shlex
+import signal
 import sys
 import tomllib
 import traceback
@@ -33,7 +34,7 @@ from ..vocabulary import Word, several, words_of
 for _threads in ("OMP_NUM_THREADS", "OPENBLAS_NUM_THREADS"):
     os.environ.setdefault(_threads, "1")
 
-INTERRUPTED = 130  # as shells have it: 128 and the number of the signal
+INTERRUPTED = 128 + signal.SIGINT  # as shells have it
 STREAMS = "stdin", "stdout", "stderr"  # in the order of their numbers
 # The subcommands: the module of each, its help, and its options in order.
 COMMANDS: dict[str, dict[str, Any]] = tomllib.loads(
