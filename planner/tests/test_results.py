@@ -8,7 +8,6 @@ from collections.abc import Callable, Mapping
 from dataclasses import replace
 from fractions import Fraction
 from pathlib import Path
-from typing import Any
 
 import pandas as pd
 import pytest
@@ -18,15 +17,7 @@ from crnplan.planned import ItemFigures
 from crnplan.show.catalogue_tables import DECISION_COLUMNS
 from crnplan.table import DataTable, Result, number, text, whole
 from planner.tests.conftest import shared
-from planner.tests.plan.items import START, several, tables_of
-
-WORDS: dict[str, Any] = {
-    "fit": "empirical",
-    "borrow": "none",
-    "periods": 64,
-    "replications": 4,
-    "jobs": 1,
-}
+from planner.tests.plan.items import QUICK as WORDS, START, several, tables_of
 
 
 def tables() -> tuple[pd.DataFrame, pd.DataFrame]:

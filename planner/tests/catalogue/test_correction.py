@@ -11,7 +11,6 @@ from pathlib import Path
 from typing import Any
 
 import numpy as np
-import pandas as pd
 import pytest
 
 import crnplan as crn
@@ -28,11 +27,10 @@ from crnplan.read.item import Item
 from planner.tests.conftest import Command, shared
 from planner.tests.planned_tables import whole_frame, whole_rows
 from planner.tests.show.page_reader import Page
-from planner.tests.plan.items import SHORT
+from planner.tests.plan.items import QUICK as SETTINGS, write_tables
 
 COUNT, ITEMS, WEEKS, START = 45, 34, 26, datetime.date(2026, 1, 5)  # a Monday
 WANTED = {0: "0.95", 1: "0.95", 2: "0.9", 3: ""}
-SETTINGS: dict[str, Any] = {"fit": "empirical", "borrow": NONE, "jobs": 1, **SHORT}
 OWN = Settings(fit="empirical", borrow=NONE)
 WORDS = "--set", "fit=empirical", "--set", "borrow=none"
 FILES = "decisions.csv", "details.csv", "summary.txt", "report.html"
@@ -48,14 +46,8 @@ def write(folder: Path, items: int = ITEMS) -> list[Path]:
         counts = 1 + random.negative_binomial(1, 1 / (2 + place % 7), WEEKS)
         rows += [(name, *row) for row in zip(days, counts.tolist())]
         masters.append((name, 9.25, 1, "" if wanted else 9, wanted, 2, 9, 30))
-    columns = "item,setup,holding,backlog,fill,lead (weeks),s,S".split(",")
-    tables = {
-        "demand": pd.DataFrame(rows, columns=["item", "date", "quantity"]),
-        "items": pd.DataFrame(masters, columns=columns),
-    }
-    for kind, table in tables.items():
-        table.to_csv(folder / f"{kind}.csv", index=False)
-    return [folder / f"{kind}.csv" for kind in tables]
+    columns = "item,setup,holding,backlog,fill,lead (weeks),s,S"
+    return write_tables(folder, rows, masters, columns)
 
 
 @pytest.fixture(scope="module")

@@ -16,7 +16,7 @@ from crnplan.plan.catalogue import planned_folder
 from crnplan.plan.learned import PRIOR_SEASONS, SEASONS
 from crnplan.show.verdicts import VERDICTS
 from planner.tests.conftest import Command, shared
-from planner.tests.plan.items import SHORT
+from planner.tests.plan.items import SHORT, write_tables
 from planner.tests.planned_tables import whole_frame, whole_rows, whole_table
 from planner.tests.show.page_reader import Page
 
@@ -39,14 +39,8 @@ def write(folder: Path) -> list[Path]:
         counts = random.poisson(mean * (wave if group == "warm" else 1.0), WEEKS)
         rows += [(name, day, count) for day, count in zip(days, counts) if count]
         masters.append((name, group, 20, 1, "0.95", 2, 2 * mean, 6 * mean, 1, 3))
-    columns = "item,class,setup,holding,fill,lead (weeks),s,S,stock,price".split(",")
-    tables = {
-        "demand": pd.DataFrame(rows, columns=["item", "date", "quantity"]),
-        "items": pd.DataFrame(masters, columns=columns),
-    }
-    for kind, table in tables.items():
-        table.to_csv(folder / f"{kind}.csv", index=False)
-    return [folder / f"{kind}.csv" for kind in tables]
+    columns = "item,class,setup,holding,fill,lead (weeks),s,S,stock,price"
+    return write_tables(folder, rows, masters, columns)
 
 
 @pytest.fixture(scope="module")

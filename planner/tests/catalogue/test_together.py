@@ -23,11 +23,10 @@ from crnplan.plan.together import Finding
 from crnplan.plan.offers import Asked, offer_of
 from planner.tests.catalogue.conftest import TABLES
 from planner.tests.conftest import Command, cases_beside
-from planner.tests.plan.items import SHORT, item_of, tables_of
+from planner.tests.plan.items import QUICK as SETTINGS, item_of, tables_of
 from planner.tests.planned_tables import whole_frame
 
 REFUSED = cases_beside(__file__)["refused"]
-SETTINGS: dict[str, Any] = {"fit": "empirical", "borrow": NONE, "jobs": 1, **SHORT}
 COUNT, WANTED = 18, 0.9
 BACKLOG = 2  # items that have a backlog cost
 

@@ -5,6 +5,7 @@ import datetime
 import itertools
 from collections.abc import Iterable, Iterator, Sequence
 from fractions import Fraction
+from pathlib import Path
 from typing import Any
 
 import numpy as np
@@ -16,6 +17,7 @@ from crnplan.read.item import Item
 
 # Short runs: a plan takes little time.
 SHORT: dict[str, Any] = {"periods": 64, "replications": 4}
+QUICK: dict[str, Any] = {"fit": "empirical", "borrow": "none", "jobs": 1, **SHORT}
 WEEKS = 60
 START = datetime.date(2024, 1, 1)  # a Monday
 
@@ -114,3 +116,14 @@ def tables_of(items: Iterable[Item]) -> tuple[pd.DataFrame, pd.DataFrame]:
         pd.DataFrame(sales, columns=["item", "date", "quantity", "returned"]),
         pd.DataFrame(masters, columns=columns),
     )
+
+
+def write_tables(
+    folder: Path, sales: Sequence[object], masters: Sequence[object], columns: str
+) -> list[Path]:
+    """Writes demand and masters of these rows, and returns their files."""
+    pairs = (("demand", sales, "item,date,quantity"), ("items", masters, columns))
+    for kind, rows, names in pairs:
+        table = pd.DataFrame(rows, columns=names.split(","))
+        table.to_csv(folder / f"{kind}.csv", index=False)
+    return [folder / f"{kind}.csv" for kind, *_ in pairs]

@@ -22,14 +22,19 @@ from crnplan.plan.what_ifs import what_if
 from crnplan.read.bounds import OrderBounds
 from crnplan.remarks import Remark
 from crnplan.sentences import sentence
-from planner.tests.plan.items import stocks_of, SHORT, alone, item_of, tables_of
+from planner.tests.plan.items import (
+    QUICK as WORDS,
+    stocks_of,
+    alone,
+    item_of,
+    tables_of,
+)
 from planner.tests.planned_tables import whole_frame
 
 WANTED = Fraction(19, 20)
 GOAL: dict[str, Any] = {"backlog": None, "no_shortage": WANTED}
 PERIODS = 200_000
 COUNT = 6
-WORDS: dict[str, Any] = {"fit": "empirical", "borrow": "none", "jobs": 1, **SHORT}
 
 
 def asked(place: int = 0, **changed: Any) -> Question:

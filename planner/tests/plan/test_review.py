@@ -23,14 +23,13 @@ from crnplan.plan.question import Levels, Question, question_of
 from crnplan.demand.learning import Prior
 from crnplan.read.bounds import OrderBounds
 from crnplan.sentences import sentence
-from planner.tests.plan.items import SHORT, alone, item_of, tables_of
+from planner.tests.plan.items import QUICK as WORDS, alone, item_of, tables_of
 from planner.tests.plan.test_seasons import answered as in_season
 from planner.tests.planned_tables import whole_frame
 
 PERIODS = 80_000
 FILL: dict[str, Any] = {"backlog": None, "fill": Fraction(19, 20)}
 NONE = Prior("none")
-WORDS: dict[str, Any] = {"fit": "empirical", "borrow": "none", "jobs": 1, **SHORT}
 
 
 def asked(review: int, place: int = 0, **changed: Any) -> Question:

@@ -15,14 +15,8 @@ import crnplan as crn
 from crnplan.drawing.pictures import Picture, savings_picture
 from planner.tests.conftest import shared
 from planner.tests.plan.items import several, tables_of
+from planner.tests.test_results import WORDS
 
-WORDS: dict[str, Any] = {
-    "fit": "empirical",
-    "borrow": "none",
-    "periods": 64,
-    "replications": 4,
-    "jobs": 1,
-}
 KINDS = "plan", "curve", "backtest"
 SVG = "{http://www.w3.org/2000/svg}"
 NUMBER = r"(-?[\d.]+(?:e-?\d+)?)"

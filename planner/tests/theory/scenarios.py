@@ -5,6 +5,7 @@ from collections.abc import Mapping, Sequence
 
 import numpy as np
 from hypothesis import strategies as st
+from scipy import stats
 
 from crnplan.chances import Floats
 from crnplan.law import Law
@@ -49,6 +50,12 @@ def scenario_of(
     """Returns a scenario with one policy of these levels. Orders arrive by default after one period."""
     tables = table(demand), table(lead), table(back) if back else None
     return Scenario.of_laws(*tables, costs, levels, 0, 1, 1, "crnsim")
+
+
+def published(mean: int) -> Scenario:
+    """Returns the scenario of `PUBLISHED` with this mean demand, to the last of 15 decimals of its weights."""
+    weights = np.rint(1e15 * stats.poisson.pmf(range(100), mean)).astype(int)
+    return scenario_of((range(100), weights.tolist()), [0], costs=Costs(64, 0, 1, 9))
 
 
 def large(

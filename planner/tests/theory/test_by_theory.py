@@ -4,13 +4,11 @@ from __future__ import annotations
 from pathlib import Path
 from typing import Any
 
-import numpy as np
 import pandas as pd
 import pytest
-from scipy import stats
 
 import crnplan as crn
-from planner.tests.theory.scenarios import PUBLISHED, scenario_of
+from planner.tests.theory.scenarios import PUBLISHED, published
 
 COSTS: dict[str, Any] = {"setup": 12.5, "holding": 0.1, "backlog": 2}
 DEMAND, LEAD = {0: 3, 5: 2}, [2, 3, 2]
@@ -25,10 +23,7 @@ def bare() -> crn.Scenario:
 @pytest.mark.parametrize("mean, point, level, cost", PUBLISHED)
 def test_published_costs(mean: int, point: int, level: int, cost: str) -> None:
     """The cost of a stated policy is that of a table of the literature, which orders at s too."""
-    weights = np.rint(1e15 * stats.poisson.pmf(range(100), mean)).astype(int)
-    demand = range(100), weights.tolist()
-    scenario = scenario_of(demand, [0], costs=crn.Costs(64, 0, 1, 9))
-    frame = scenario.theory({"published": (point + 1, level)}).frame
+    frame = published(mean).theory({"published": (point + 1, level)}).frame
     assert f"{frame.loc['published', 'cost']:.3f}" == cost
 
 

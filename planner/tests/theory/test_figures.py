@@ -7,7 +7,6 @@ from collections.abc import Mapping, Sequence
 import numpy as np
 import pytest
 from hypothesis import given, settings, strategies as st
-from scipy import stats
 
 from crnplan.policies import Policy
 from crnplan.money import Costs
@@ -22,6 +21,7 @@ from planner.tests.theory.scenarios import (
     PUBLISHED,
     Weights,
     laws,
+    published,
     scenario_of,
     table,
     theory_of,
@@ -114,10 +114,7 @@ def test_halves_of_a_mean_position() -> None:
 
 @pytest.mark.parametrize("mean, point, level, cost", PUBLISHED)
 def test_a_published_optimum(mean: int, point: int, level: int, cost: str) -> None:
-    weights = np.rint(1e15 * stats.poisson.pmf(range(100), mean)).astype(int)
-    demand = range(100), weights.tolist()
-    scenario = scenario_of(demand, [0], costs=Costs(64, 0, 1, 9))
-    best = LongRun(scenario, 1, True, 150).best()
+    best = LongRun(published(mean), 1, True, 150).best()
     assert (f"{best.cost:.3f}", best.point - 1, best.level) == (cost, point, level)
 
 
