@@ -90,8 +90,7 @@ class CandidateRows:
         shares = np.zeros(self.extra.shape[:2])
         shares[places, variants[above - 1]] = 1 - share
         shares[places, variants[above]] = share
-        counted: Floats = shares[self.owner, self.variant]
-        return counted
+        return shares[self.owner, self.variant]
 
     def variant_costs(self) -> Floats:
         """Returns what each row costs in its variant."""
@@ -212,8 +211,7 @@ class Hulls:
     def changes(self, units: Units) -> Whole:
         """Returns what each step adds to the figures, in whole units."""
         whole = in_units(self.figures, units)
-        changes: Whole = whole[:, self.below + 1] - whole[:, self.below]
-        return changes
+        return whole[:, self.below + 1] - whole[:, self.below]
 
     def before(self, price: float, owner: int) -> int:
         """Returns how many steps come before that of a price and an item."""
@@ -253,8 +251,7 @@ def bounds_of(part: CurvePart, units: Units, asked: Sequence[Dearer]) -> Whole:
         ):
             np.add.at(its, rows.first[some], counted)
             np.subtract.at(its, rows.end[some], counted)
-    least: Whole = np.cumsum(sums, axis=-1)[..., :-1]
-    return least
+    return np.cumsum(sums, axis=-1)[..., :-1]
 
 
 def stretches_of(

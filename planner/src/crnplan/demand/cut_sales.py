@@ -57,7 +57,7 @@ def spread(law: Floats, cuts: Sample) -> Floats:
     tails = np.maximum(tails_of(law)[cuts.values], LEAST_CHANCE)
     shares = np.zeros(len(law))
     shares[cuts.values] = cuts.counts / tails
-    return np.asarray(law * np.cumsum(shares))
+    return law * np.cumsum(shares)
 
 
 def fit_of(family: Family, known: Sample, cuts: Sample) -> CutFit | None:

@@ -104,7 +104,7 @@ class Lognormal(Family):
         )
         deviations *= math.sqrt(1 + 1 / sample.size)
         below = special.ndtr((np.log(ends + 1.5) - mean) / deviations).mean(axis=0)
-        return np.asarray(np.diff(below, prepend=0.0))
+        return np.diff(below, prepend=0.0)
 
     def drawn(
         self, sample: Sample, uniform: Floats, counted: float = 1.0
@@ -187,9 +187,8 @@ class Bulk(Family):
         share = bulks.size / (sample.size + 1)
         below = special.stdtr(freedom, (ends[1:] + 0.5 - bulks.mean) / deviation)
         sizes = np.append(0.0, np.diff(below, prepend=0.0))
-        return np.asarray(
-            share * sizes
-            + (1 - share) * scaled(parts.fit.family.predictive(parts.ordinary, ends))
+        return share * sizes + (1 - share) * scaled(
+            parts.fit.family.predictive(parts.ordinary, ends)
         )
 
     def drawn(

@@ -69,7 +69,7 @@ class Family(ABC):
 
     def chances(self, values: Whole, *parameters: Any) -> Floats:
         """Returns the chances of values: of a member, or a row for each if parameters are columns."""
-        return np.asarray(np.exp(self.logarithms(values, *parameters)))
+        return np.exp(self.logarithms(values, *parameters))
 
     def logarithms(self, values: Whole, *parameters: Any) -> Floats:
         """Returns the logarithms of `chances`."""

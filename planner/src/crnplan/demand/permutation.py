@@ -48,7 +48,7 @@ def autocorrelations(far: Floats, places: Whole) -> Floats:
         pairs = seen[lag:] @ seen[:-lag]
         share = (len(far) - lag) / pairs if pairs else 0.0
         products.append(share * (spread[lag:] @ spread[:-lag]))
-    return np.asarray(products / (far @ far))
+    return products / (far @ far)
 
 
 def step_weights(size: int) -> Floats:

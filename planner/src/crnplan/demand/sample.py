@@ -98,7 +98,7 @@ class Sample:
     @property
     def law(self) -> Floats:
         """Returns the shares of 0, 1, 2 and so on."""
-        return np.asarray(np.bincount(self.values, self.counts) / max(self.size, 1))
+        return np.bincount(self.values, self.counts) / max(self.size, 1)
 
 
 class Shares(NamedTuple):

@@ -85,8 +85,7 @@ class Tried:
     @property
     def falling(self) -> Floats:
         """Returns the shares that are not met, of which none is above the one of a lower fill rate."""
-        falling: Floats = np.minimum.accumulate(self.unmet)
-        return falling
+        return np.minimum.accumulate(self.unmet)
 
     def aim(self, wanted: float) -> float:
         """Returns the fill rate whose policies met the wanted one: between those of `FILLS` by the logarithm of what it

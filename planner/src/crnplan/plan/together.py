@@ -54,8 +54,7 @@ class OnPast(NamedTuple):
 
     @property
     def unmet(self) -> Floats:
-        falling: Floats = np.minimum.accumulate(1 - self.met)
-        return falling
+        return np.minimum.accumulate(1 - self.met)
 
     def price(self, wanted: float) -> float:
         """Returns the price with which the wanted share was met; if none is, the highest."""

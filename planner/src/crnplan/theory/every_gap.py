@@ -285,8 +285,7 @@ def finer(places: Whole, gaps: Whole, costs: Floats) -> Whole:
     for place in best:
         for near in range(max(place - 1, 0), min(place + 1, len(widths))):
             is_due[near] |= widths[near] > max(gaps[place] // FINE, 1)
-    halves: Whole = places[:-1][is_due] + (widths[is_due] + 1) // 2
-    return halves
+    return places[:-1][is_due] + (widths[is_due] + 1) // 2
 
 
 class Cases:

@@ -140,8 +140,7 @@ class Figured(PositionWalk):
         for cells, row in zip(begun.tolist(), rows):
             first = self.spare - cells
             lows[first : first + len(row)] += shares[cells] * row
-        kept: Floats = np.trim_zeros(lows / shares.sum(), "b")
-        return kept
+        return np.trim_zeros(lows / shares.sum(), "b")
 
     def exact_lows(self, gaps: Sequence[int]) -> list[Floats]:
         """Returns what `lows_below` does, if orders go up to S exactly."""

@@ -200,8 +200,7 @@ class LongRun(Figured):
         rises = np.append(0, np.cumsum(np.diff(ordered) > 0))
         is_new = rises[len(self.falls) - 1 :] > rises[: len(gaps)]
         is_new[0] = True
-        kept: Whole = gaps[is_new]
-        return kept
+        return gaps[is_new]
 
     def grid(self) -> Whole:
         """Returns a few gaps that feasible policies may have, further apart as they grow; none if there are none."""

@@ -360,7 +360,7 @@ class PositionWalk:
 
     def cycles(self, most: int) -> Floats:
         """Returns the mean number of periods from one order to the next, of the gaps up to the most."""
-        return np.asarray(self.span * np.cumsum(self.lows_of(most)))
+        return self.span * np.cumsum(self.lows_of(most))
 
     def lows_after(self, gap: int) -> Floats:
         """Returns how many lows a cycle has in the mean that begins 0, 1, .. up to `spare` cells above S."""
@@ -400,8 +400,7 @@ class PositionWalk:
         """Returns what `periods` does, for some rising gaps."""
         if self.spare:
             return np.array([self.periods(gap) for gap in gaps.tolist()])
-        periods: Floats = self.cycles(int(gaps[-1]))[gaps]
-        return periods
+        return self.cycles(int(gaps[-1]))[gaps]
 
     def positions(self, gap: int) -> LatticeLaw:
         """Returns the law of how far the position after a review is below S."""
