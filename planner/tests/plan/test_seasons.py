@@ -24,7 +24,7 @@ from crnplan.plan.correction import trial_of
 from crnplan.demand.learning import Prior
 from crnplan.plan.item import depth_of
 from crnplan.plan.one import plan_asked, plan_one
-from crnplan.plan.yearly import PlannedPart, Year
+from crnplan.plan.yearly import Year
 from crnplan.plan.how import NONE, without_season
 from crnplan.plan.question import Question, question_of
 from crnplan.plan.seasons import (
@@ -445,25 +445,25 @@ def test_runs_of_a_year(program: Path) -> None:
 
 
 def test_corrected_year(program: Path) -> None:
-    """A year has the mean stock of policies that aim at the wanted fill rate, and what a confidence costs."""
+    """A year has the mean stock of policies that aim at the wanted fill rate, and what a confidence and a coverage cost."""
     trial = Trial(8.0, 104, tuple(208 * (1 - fill) for fill in FILLS))
-    words: dict[str, Any] = {"aims": Aims.of([trial] * 40), "confidence": 0.8}
+    words = {"aims": Aims.of([trial] * 40), "confidence": 0.8, "max_coverage": 4}
     wanted = {"fill": Fraction(19, 20), "backlog": None}
     answer = answered(program, words, **wanted)
     question = question_of(
         seasonal(**wanted), alone(every="week", seasons=SEASONS, **words)
     )
     assert question.season and answer.correction and answer.correction.aim > 0.95
-    year, plain, costs = question.season.year, [], []
-    for stretch in year:
-        month = plan_one(question.during(stretch), str(program))
-        assert month.correction
-        plain.append(month.correction.plain_stock)
-        costs.append(month.confidence_cost)
+    year = question.season.year
+    months = [plan_one(question.during(stretch), str(program)) for stretch in year]
     weeks = [it.end - it.first for it in year]
-    mean = np.average(plain, weights=weeks)
-    assert answer.correction.plain_stock == pytest.approx(mean)
-    assert answer.confidence_cost == pytest.approx(np.average(costs, weights=weeks))
+    plain = [it.correction.plain_stock for it in months if it.correction]
+    assert answer.correction.plain_stock == pytest.approx(
+        np.average(plain, weights=weeks)
+    )
+    for name in ("confidence_cost", "coverage_cost"):
+        mean = np.average([getattr(it, name) or 0 for it in months], weights=weeks)
+        assert mean > 0 and getattr(answer, name) == pytest.approx(mean)
 
 
 def test_verdicts_of_a_year(program: Path) -> None:
@@ -492,7 +492,7 @@ def test_verdict_of_a_year_by_runs(program: Path) -> None:
     by_run = dataclasses.replace(answer, source=RUN)
     for low, verdict in ((0.1, CHEAPER), (-0.1, UNDECIDED)):
         run = dataclasses.replace(answer.run, low=low, high=9.0)
-        year = Year([PlannedPart(question, dataclasses.replace(by_run, run=run))])
+        year = Year([(question, dataclasses.replace(by_run, run=run))])
         assert year.verdict(year.answers[0]) == verdict
 
 

@@ -59,7 +59,7 @@ from .choice import CLOSE, Choice, allowed_by, best_by_price, choice_of, levels_
 from .how import Settings
 from .prices import weight_of
 from .question import Levels, NoPolicy, Question, Unplanned, question_of
-from .yearly import PlannedPart, over_year, verdict_of
+from .yearly import over_year, verdict_of
 
 Result = TypeVar("Result")
 TENTHS = 0.1, 0.9  # the ends of what 80% of the allowed laws say
@@ -67,33 +67,23 @@ LEAST_DEMANDS = 10  # With fewer it is said that the law is hardly known.
 ROUGH_RATES = 0.001  # by this share whole numbers may differ from costs unsaid
 
 
-ComparedFigures = tuple[float | None, float | None, float | None, float | None]
-
-
-def by_theory(today: Figures, chosen: Figures) -> ComparedFigures:
-    """Returns what today's policy costs, and what the chosen one saves, with both ends between which that is."""
-    saving, near = today.cost - chosen.cost, CLOSE * today.cost
-    return today.cost, saving, saving - near, saving + near
-
-
 def beside_today(
     question: Question, figures: Mapping[str, Figures], run: CheckRun | None
 ) -> tuple[str, float | None, float | None]:
-    """Compares the chosen policy with today's: by the run if there is one and theory is not exact. Returns the verdict, what
-    today's costs, and the saving; both are None without a policy today."""
+    """Compares the chosen policy with today's, by the run if its figures count. Returns the verdict, what today's costs,
+    and the saving; both are None without a policy today."""
     today, chosen = figures.get(TODAY), figures[CHOSEN]
     if today is None:
         return NEW if question.is_new else UNCOMPARED, None, None
-    compared = by_theory(today, chosen)
-    if run and question.by_run:
-        compared = run.cost_today, run.saving, run.low, run.high
-    cost, saving, low, high = compared
+    cost, saving = today.cost, today.cost - chosen.cost
+    if run:
+        cost, saving = run.cost_today or 0.0, run.saving or 0.0
     if question.is_new:
         verdict = NEW
     elif chosen.levels == today.levels:
         verdict = SAME
     else:
-        verdict = verdict_of(question, today, saving or 0.0, low, high)
+        verdict = verdict_of(question, today, saving, run)
     return verdict, cost, saving
 
 
@@ -304,10 +294,11 @@ def answer_of(question: Question, choice: Choice, program: str) -> Answer:
     """Returns the answer with a choice, beside which stands a run, if there can be one. Raises as `plan_one` does."""
     theory, figures = question.theory, figures_by_policy(question, choice)
     run, sample = checked_run(question, choice.levels, figures, program) or (None, None)
-    chosen, cost, source = figures[CHOSEN], figures[CHOSEN].cost, THEORY
-    if run and question.by_run:
-        cost, source = run.cost_chosen, RUN
-    verdict, cost_today, saving = beside_today(question, figures, run)
+    chosen, source = figures[CHOSEN], THEORY
+    cost, used = chosen.cost, run if question.by_run else None
+    if used:
+        cost, source = used.cost_chosen, RUN
+    verdict, cost_today, saving = beside_today(question, figures, used)
     if choice.is_bounded and verdict not in (UNCOMPARED, NEW) and not choice.worse:
         verdict = BOUNDED
     bounds = [*bounds_of(question, choice)]
@@ -392,17 +383,17 @@ def planned(
 ) -> Answer:
     """Returns the answer to an item, with its levels in an earlier plan: perhaps those of each period of a year."""
     first = before[0] if before else None
-    question, parts = question_of(item, settings, prior, first), list[PlannedPart]()
+    question = question_of(item, settings, prior, first)
     if question.season is None:
         return plan_one(question, program)
-    year = question.season.year
+    year, parts = question.season.year, list[tuple[Question, Answer]]()
     for stretch in year:
         asked = question
         if parts:
             place = stretch.first - year[0].first
             earlier = before[place % len(before)] if before else None
             asked = question.during(stretch, earlier)
-        parts.append(PlannedPart(asked, plan_one(asked, program)))
+        parts.append((asked, plan_one(asked, program)))
     return over_year(parts)
 
 

@@ -6,21 +6,27 @@ from __future__ import annotations
 
 import dataclasses
 from collections.abc import Iterable, Sequence
-from typing import NamedTuple
+from typing import Any
 
 import numpy as np
 
 from ..chances import Floats
 from ..read.item import NEW
 from .answer import (
+    ALONE,
+    BEFORE,
     BOUNDED,
     CHEAPER,
+    CHOSEN,
     DEARER,
+    OVERRIDE,
     RUN,
     SAME,
     SERVICE,
     THEORY,
+    TODAY,
     UNCOMPARED,
+    UNDAMPED,
     UNDECIDED,
     Answer,
     Figures,
@@ -30,16 +36,21 @@ from .answer import (
 from .choice import CLOSE
 from .question import Question
 
+# The figures of an answer, and of its run, that are means over a year.
+COSTS = ("cost_today", "cost_chosen", "saving", "confidence_cost", "cost_promised")
+OF_RUN = ("cost_chosen", "cost_today", "saving", "error", "low", "high")
+
 
 def verdict_of(
-    question: Question,
-    today: Figures,
-    saving: float,
-    low: float | None,
-    high: float | None,
+    question: Question, today: Figures, saving: float, run: CheckRun | None
 ) -> str:
-    """Returns the verdict on a policy that is not today's, by its saving, which is between both ends."""
-    share = question.aim
+    """Returns the verdict on a policy that is not today's, by its saving: by the interval of a run if there is one, else
+    by theory."""
+    share, near = question.aim, CLOSE * today.cost
+    low: float | None = saving - near
+    high: float | None = saving + near
+    if run:
+        low, high = run.low, run.high
     has_goal = share is not None or question.together is not None
     if low is not None and low > 0:
         return CHEAPER
@@ -52,24 +63,11 @@ def verdict_of(
     return DEARER if high is not None and high < 0 else UNDECIDED
 
 
-class PlannedPart(NamedTuple):
-    """A part of the coming year: its question, and the answer to that."""
-
-    question: Question
-    answer: Answer
-
-    @property
-    def periods(self) -> int:
-        """Returns how many periods it has."""
-        row = self.row
-        return row.end - row.first
-
-    @property
-    def row(self) -> YearPart:
-        """Returns the part as a calendar has it."""
-        season = self.question.season
-        assert season is not None
-        return YearPart(*season.stretch, *self.answer.chosen.levels, season.factor)
+def part_of(question: Question, answer: Answer) -> YearPart:
+    """Returns a part of the coming year as a calendar has it."""
+    season = question.season
+    assert season is not None
+    return YearPart(*season.stretch, *answer.chosen.levels, season.factor)
 
 
 def mean_of(figures: Sequence[Figures], periods: Floats, asked: Floats) -> Figures:
@@ -84,21 +82,25 @@ def mean_of(figures: Sequence[Figures], periods: Floats, asked: Floats) -> Figur
 
 
 class Year:
-    """The parts of a year, and means over them."""
+    """The parts of a year, each with its question and the answer to that, and means over them."""
 
-    def __init__(self, parts: Sequence[PlannedPart]) -> None:
-        self.parts = parts
-        self.answers = [part.answer for part in parts]
-        self.periods = np.array([part.periods for part in parts], float)
-        means = [float(part.question.demand.mean) for part in parts]
+    def __init__(self, parts: Sequence[tuple[Question, Answer]]) -> None:
+        self.question, _ = parts[0]
+        self.answers = [answer for _, answer in parts]
+        self.rows = [part_of(*part) for part in parts]
+        self.periods = np.array([row.end - row.first for row in self.rows], float)
+        means = [float(question.demand.mean) for question, _ in parts]
         self.asked = self.periods * means
 
-    def mean(self, values: Iterable[float | None]) -> float | None:
+    def mean(self, values: Sequence[float | None]) -> float | None:
         """Returns the mean of a value by part; None if it is None in one."""
-        known = [value for value in values if value is not None]
-        if len(known) < len(self.parts):
+        if None in values:
             return None
-        return float(self.periods @ known / self.periods.sum())
+        return float(self.periods @ values / self.periods.sum())
+
+    def means(self, things: Sequence[object], names: Iterable[str]) -> dict[str, Any]:
+        """Returns the means of some figures of what each part has, by name."""
+        return {name: self.mean([getattr(it, name) for it in things]) for name in names}
 
     def mean_figures(self, name: str) -> Figures | None:
         """Returns the mean of the figures of a policy: see `mean_of`. None without the policy in the first part; in
@@ -118,11 +120,7 @@ class Year:
         runs = [answer.run for answer in self.answers if answer.run]
         if not runs:
             return None
-        means = dict[str, float | None]()
-        for name in ("cost_chosen", "cost_today", "saving", "error", "low", "high"):
-            means[name] = self.mean(getattr(run, name) for run in runs)
-        changed: dict[str, object] = {**means}
-        return dataclasses.replace(runs[0], **changed)
+        return dataclasses.replace(runs[0], **self.means(runs, OF_RUN))
 
     def verdict(self, answer: Answer) -> str:
         """Returns the verdict on a year with such means."""
@@ -133,49 +131,32 @@ class Year:
         if verdicts == {SAME}:
             return SAME
         assert answer.today and answer.saving is not None
-        near = CLOSE * answer.today.cost
-        low: float | None = answer.saving - near
-        high: float | None = answer.saving + near
-        if answer.run and answer.source != THEORY:
-            low, high = answer.run.low, answer.run.high
-        question = self.parts[0].question
-        return verdict_of(question, answer.today, answer.saving, low, high)
+        run = answer.run if answer.source == RUN else None
+        return verdict_of(self.question, answer.today, answer.saving, run)
 
 
-def over_year(parts: Sequence[PlannedPart]) -> Answer:
+def over_year(parts: Sequence[tuple[Question, Answer]]) -> Answer:
     """Returns the answer to the first part of the year of an item that is planned by its season, with means of the year in
     place of the figures of that part, and with the calendar of levels."""
-    year, (question, first) = Year(parts), parts[0]
-    law = question.all_year
-    chosen = year.mean_figures("chosen")
-    cost = year.mean(answer.cost_chosen for answer in year.answers)
-    assert chosen and cost is not None
-    coverage = [answer.coverage_cost for answer in year.answers]
+    year = Year(parts)
+    answers, first = year.answers, year.answers[0]
+    changed = year.means(answers, COSTS)
+    for name in (TODAY, CHOSEN, ALONE, BEFORE, UNDAMPED, OVERRIDE):
+        changed[name] = year.mean_figures(name)
+    coverage = [answer.coverage_cost for answer in answers]
+    if any(coverage):
+        changed["coverage_cost"] = year.mean([cost or 0.0 for cost in coverage])
     correction = first.correction
     if correction:
-        own = [answer.correction or correction for answer in year.answers]
-        stock = year.mean(one.plain_stock for one in own) or 0.0
-        correction = dataclasses.replace(correction, plain_stock=stock)
+        own = [answer.correction or correction for answer in answers]
+        stock = year.means(own, ["plain_stock"])
+        changed["correction"] = dataclasses.replace(correction, **stock)
     answer = dataclasses.replace(
         first,
-        source=RUN if any(one.source == RUN for one in year.answers) else THEORY,
-        cost_today=year.mean(one.cost_today for one in year.answers),
-        cost_chosen=cost,
-        saving=year.mean(one.saving for one in year.answers),
-        today=year.mean_figures("today"),
-        chosen=chosen,
-        alone=year.mean_figures("alone"),
-        before=year.mean_figures("before"),
-        undamped=year.mean_figures("undamped"),
-        override=year.mean_figures("override"),
-        laws=dataclasses.replace(first.laws, demand=law.table),
-        confidence_cost=year.mean(one.confidence_cost for one in year.answers),
-        coverage_cost=year.mean(one or 0.0 for one in coverage)
-        if any(coverage)
-        else None,
-        correction=correction,
+        source=RUN if any(one.source == RUN for one in answers) else THEORY,
+        laws=dataclasses.replace(first.laws, demand=year.question.all_year.table),
         run=year.run,
-        calendar=tuple(part.row for part in parts),
-        cost_promised=year.mean(one.cost_promised for one in year.answers),
+        calendar=tuple(year.rows),
+        **changed,
     )
     return dataclasses.replace(answer, verdict=year.verdict(answer))
