@@ -91,7 +91,7 @@ def test_points_of_the_plan(twenty: Path) -> None:
     with planned_folder(twenty) as planned:
         totals = planned.totals
     for name in ("today", "chosen"):
-        point, _ = found.points[name]
+        point = found.points[name].point
         value, met, asked = (
             totals[f"{figure}{of}"] + totals[f"{figure}_uncompared"]
             for figure, of in (
@@ -209,7 +209,7 @@ def test_a_today_beyond_the_curve(twenty: Path) -> None:
 def test_budget_is_kept(plan: Path, budget: Budget) -> None:
     """Policies have theory's figures and keep the budget in the sum. Their distance from the best is said."""
     its = drawn(plan, budget)
-    point, gap = its.points["budget"]
+    _, point, gap, *_ = its.points["budget"]
     assert budget.value is None or point.value <= budget.value * (1 + 1e-9)
     assert budget.fill is None or budget.fill - 1e-9 <= point.fill < budget.fill + 0.01
     assert budget.orders is None or point.orders <= budget.orders * (1 + 1e-9)

@@ -230,11 +230,12 @@ def test_points_of_the_curve_are_those_of_every_choice(seed: int) -> None:
             wanted.append((price, best))
         last = best
     found = curve_points(items)
-    assert [price for price, _ in found] == [price for price, _ in wanted]
+    assert [its.price for its in found] == [price for price, _ in wanted]
     assert len(found) > 4
-    for (_, point), (_, best) in zip(found, wanted):
+    for its, (_, best) in zip(found, wanted):
         fill = 1 - unmet[best] / asked_of(items)
-        assert point == pytest.approx((values[best], fill, orders[best], cost[best]))
+        expected = values[best], fill, orders[best], cost[best]
+        assert its.point == pytest.approx(expected)
 
 
 @pytest.mark.parametrize(

@@ -39,12 +39,13 @@ CURVE, POLICIES = "curve.csv", "curve_policies.csv"
 
 
 class CurvePoint(NamedTuple):
-    """A point of the curve: of a price, or one that has a name."""
+    """A point of the curve: of a price, or one that has a name, with what it is for a reader and its gap."""
 
     name: str
     point: Point
     gap: float = 0.0
     price: float | None = None
+    said: str = ""
 
 
 COLUMNS = columns_of("curve", "curve")
@@ -78,15 +79,14 @@ NOTES = (
 
 @dataclass(frozen=True, eq=False, repr=False)
 class ExchangeCurve(Result):
-    """The curve: its points by price, the points that have a name with their gaps, what each is for a reader, and why
-    others are missing. `written` names the point whose policies are written: those of the `choice`. Tables are read
-    from the folder when they are first asked for; a pickle has them all.
+    """The curve: its points by price, the points that have a name, and why others are missing. `written` names the point
+    whose policies are written: those of the `choice`. Tables are read from the folder when they are first asked for; a
+    pickle has them all.
     """
 
     gathered: Gathered
-    curve: list[tuple[float, Point]]
-    points: dict[str, tuple[Point, float]]
-    said: dict[str, str]
+    curve: list[CurvePoint]
+    points: dict[str, CurvePoint]
     missing: dict[str, str]
     written: str
     choice: CurveChoice
@@ -99,7 +99,12 @@ class ExchangeCurve(Result):
     @property
     def named(self) -> dict[str, Point]:
         """Returns the points that have a name by what they are."""
-        return {self.said[name]: point for name, (point, _) in self.points.items()}
+        return {its.said: its.point for its in self.points.values()}
+
+    @property
+    def _drawn(self) -> list[tuple[str, Point]]:
+        """Returns the points of its picture: the named ones with what they are, then those of the line."""
+        return [(its.said, its.point) for its in (*self.points.values(), *self.curve)]
 
     def keep(self) -> ExchangeCurve:
         """Reads all tables, and returns the curve, which no longer needs the folder."""
@@ -121,12 +126,7 @@ class ExchangeCurve(Result):
     @cached_property
     def table(self) -> DataTable:
         """Returns the points: named ones first, then the curve by rising price."""
-        rows = [
-            CurvePoint(name, point, gap) for name, (point, gap) in self.points.items()
-        ]
-        rows += [
-            CurvePoint(ON_CURVE, point, price=price) for price, point in self.curve
-        ]
+        rows = [*self.points.values(), *self.curve]
         return self.gathered.folder.table(COLUMNS, rows)
 
     @cached_property
@@ -165,15 +165,15 @@ class ExchangeCurve(Result):
                 "above the best",
             ]
         ]
-        for name, (point, gap) in self.points.items():
+        for its in self.points.values():
             rows.append(
                 [
-                    self.said[name],
-                    f"{point.value:,.{money}f}",
-                    f"{point.fill:.2%}",
-                    f"{point.orders:,.4g}",
-                    f"{point.cost:,.{money}f}",
-                    gap_text(gap),
+                    its.said,
+                    f"{its.point.value:,.{money}f}",
+                    f"{its.point.fill:.2%}",
+                    f"{its.point.orders:,.4g}",
+                    f"{its.point.cost:,.{money}f}",
+                    gap_text(its.gap),
                 ]
             )
         return rows
@@ -185,9 +185,8 @@ class ExchangeCurve(Result):
 
     def plot(self) -> Picture:
         """Draws the curve with its named points."""
-        line = [("", point) for _, point in self.curve]
         money = Money(self.currency.code, self.currency.decimals)
-        return Picture.of([exchange_plot([*self.named.items(), *line], money)])
+        return Picture.of([exchange_plot(self._drawn, money)])
 
     @property
     def policies(self) -> pd.DataFrame:
@@ -266,13 +265,13 @@ def _as_today(items: Items, today: Point, asked: Budget) -> CurveChoice:
         return choice
 
 
-def curve_points(items: Items) -> list[tuple[float, Point]]:
+def curve_points(items: Items) -> list[CurvePoint]:
     """Returns the points of the curve: for each price of the grid at which some item's policy changes."""
-    points = list[tuple[float, Point]]()
+    points = list[CurvePoint]()
     for stretch in items.ladder().grid[:-1]:
-        price, point = stretch.high, items.point(stretch.after)
-        if not points or point != points[-1][1]:
-            points.append((price, point))
+        point = items.point(stretch.after)
+        if not points or point != points[-1].point:
+            points.append(CurvePoint(ON_CURVE, point, price=stretch.high))
     return points
 
 
@@ -287,24 +286,24 @@ def draw(gathered: Gathered, budget: Budget) -> ExchangeCurve:
     """Returns the curve with its points."""
     choices, missing = points_of(gathered, budget)
     items = gathered.items
-    points = dict[str, tuple[Point, float]]()
-    said = dict[str, str]()
+    points = dict[str, CurvePoint]()
     for name, point in gathered.points.items():
-        points[name] = point, gap_of(items, point)
-        said[name] = said_of(name, gathered.folder.settings)
+        said = said_of(name, gathered.folder.settings)
+        points[name] = CurvePoint(name, point, gap_of(items, point), said=said)
     for name, choice in choices.items():
-        points[name] = choice.point, gap_of(items, choice.point, choice.dearer)
-        said[name] = SAID[name]
+        said = SAID[name]
         if choice.dearer.stock:
-            said[name] += " (more orders)"
+            said += " (more orders)"
         if choice.dearer.orders:
-            said[name] += " (fewer orders)"
+            said += " (fewer orders)"
+        gap = gap_of(items, choice.point, choice.dearer)
+        points[name] = CurvePoint(name, choice.point, gap, said=said)
     named = [name for name in (BUDGET, SAME_SERVICE, SAME_STOCK) if name in choices]
     # If neither of today's figures is on the curve, the policies are those of its beginning.
     written, *_ = *named, ON_CURVE
     choice = choices[written] if choices else items.ladder().with_price(0)
     curve = curve_points(items)
-    return ExchangeCurve(gathered, curve, points, said, missing, written, choice)
+    return ExchangeCurve(gathered, curve, points, missing, written, choice)
 
 
 def gap_text(gap: float) -> str:
@@ -403,8 +402,5 @@ def exchange_curve(
             (POLICIES, drawn.policy_lines),
         ):
             own.write(name, lines)
-        keep_curve(
-            planned.store,
-            [*drawn.named.items(), *(("", point) for _, point in drawn.curve)],
-        )
+        keep_curve(planned.store, drawn._drawn)
     return drawn
