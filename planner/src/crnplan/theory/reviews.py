@@ -150,65 +150,47 @@ class NetDemandLaws(NamedTuple):
         )
         return cls(reviews, counts_of(1 - never, reviews, len(laws)), laws)
 
+    def within(self, width: int) -> Floats:
+        """Returns the chances that the net demand of 0, 1, .. reviews is within a width."""
+        chances = np.zeros(self.reviews)
+        laws = self.laws[:, : max(width + 1, 0)]
+        chances[: len(self.counts)] = self.counts @ laws.sum(axis=1)
+        return chances
+
 
 def most_sums(net: LatticeLaw, width: int) -> float:
     """Returns about how many net demands above 0 are at most a width together."""
     return 2 * width * net.above(0) / net.mean + 2
 
 
-def renewals(
-    counts: Floats,
-    laws: Floats,
-    begun: Floats,
-    low: int,
-    gap: int,
-    periods: int,
-    counted: int,
-) -> tuple[float, Floats, float]:
-    """Returns what `falling` does. `begun` has the chances of the cells from `low` on after the first review, if that
-    places no order."""
-    used = len(counts)
-    early = min(counted, len(counts))
+def falling(sums: NetDemandLaws, start: Start, gap: int, counted: int) -> Reviews:
+    """Returns the reviews of a run if nothing comes back, of which the first `counted` matter for the stock.
+    `sums` go up to the most that can be asked for between the start and an order."""
+    low, used = min(start.law.low, 0), len(sums.counts)
+    begun = start.law.between(low, gap) * (not start.ordered)
+    early = min(counted, used)
     places = np.flatnonzero(begun)
-    first = np.zeros(periods)
-    cycle = np.zeros(periods)
-    within = np.zeros(periods)
+    first = np.zeros(sums.reviews)
+    cycle = np.diff(sums.within(gap), prepend=0.0)
     weights = np.zeros((4, used))
     first[0] = 1 - begun.sum()
     for place in places:
-        within[:used] = counts @ laws[:, : max(gap - low - place + 1, 0)].sum(axis=1)
-        first[1:] -= begun[place] * np.diff(within)
-    within[:used] = counts @ laws[:, : gap + 1].sum(axis=1)
-    cycle[0] = within[0]
-    cycle[1:] = np.diff(within)
+        first[1:] -= begun[place] * np.diff(sums.within(gap - low - place))
     placing = quotient(first, cycle[: np.flatnonzero(cycle)[-1] + 1])
     # How often the first laws and the last one have 0, 1, .. reviews since the start, and since an order.
     weights[0, :early] = 1.0
     weights[1, :early] = np.cumsum(placing[:counted])[::-1][:early]
-    weights[2, -1] = used == periods
+    weights[2, -1] = used == sums.reviews
     weights[3] = placing[::-1][:used]
-    after = weights @ counts @ laws
+    after = weights @ sums.counts @ sums.laws
     depths = np.zeros((2, len(begun)))
     for row in range(2):
         depths[row, -low:] = after[2 * row + 1, : gap + 1]
         for place in places:
             depths[row, place:] += begun[place] * after[2 * row, : len(begun) - place]
     depths = np.maximum(depths, 0.0)
-    return placing.sum(), depths[0], (depths[1] * (low + np.arange(len(begun)))).sum()
-
-
-def falling(
-    sums: NetDemandLaws, start: Start, gap: int, periods: int, counted: int
-) -> Reviews:
-    """Returns the reviews of so many periods if nothing comes back, of which the first `counted` matter for the stock.
-    `sums` go up to the most that can be asked for between the start and an order."""
-    law = start.law
-    low = min(start.law.low, 0)
-    begun = law.between(low, gap) * (not start.ordered)
-    orders, first, last = renewals(
-        sums.counts, sums.laws, begun, low, gap, periods, counted
-    )
-    return Reviews(orders, LatticeLaw(low, first), last)
+    last = (depths[1] * (low + np.arange(len(begun)))).sum()
+    return Reviews(placing.sum(), LatticeLaw(low, depths[0]), last)
 
 
 def moving(

@@ -134,7 +134,7 @@ class PolicyRuns:
     def reviews(self, start: Start, gap: int) -> Reviews:
         """Returns the reviews from a start."""
         if self.sums is not None:
-            return falling(self.sums, start, gap, self.periods, self.counted)
+            return falling(self.sums, start, gap, self.counted)
         usual = self.theory.positions(gap), 1 / self.theory.periods(gap)
         return moving(self.theory.net, start, *usual, self.periods, self.counted)
 
