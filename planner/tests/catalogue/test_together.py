@@ -20,7 +20,7 @@ from crnplan.plan.catalogue import planned_folder
 from crnplan.plan.prices import REST, Price
 from crnplan.plan.how import NONE
 from crnplan.plan.together import Finding
-from crnplan.plan.offers import Asked, offer_of
+from crnplan.plan.offers import offer_of
 from planner.tests.catalogue.conftest import TABLES
 from planner.tests.conftest import Command, cases_beside
 from planner.tests.plan.items import QUICK as SETTINGS, item_of, tables_of
@@ -106,7 +106,7 @@ def test_no_price_below_meets_the_share(together: crn.Plan) -> None:
     (price,) = groups_of(together).values()
     asked, unmet = list[float](), list[float]()
     with planned_folder(together.path) as folder:
-        less = {REST: Asked((0.98 * price.price,))}
+        less = {REST: (0.98 * price.price,)}
         on = dataclasses.replace(folder.settings, prices=None)
         for item in folder.read.items():
             if item.backlog is None:

@@ -19,7 +19,7 @@ from crnplan.plan.backtest.one import Walk
 from crnplan.plan.catalogue import planned_folder
 from crnplan.plan.correction import blocks_of
 from crnplan.plan.drawn import DrawnItems
-from crnplan.plan.offers import Asked, ByPrice, Offer, met_on_past, past_of
+from crnplan.plan.offers import ByPrice, Offer, met_on_past, past_of
 from crnplan.plan.prices import REST, Price
 from crnplan.plan.how import NONE, Settings
 from crnplan.plan.question import question_of
@@ -88,7 +88,7 @@ def test_offers_on_the_past(corrected: crn.Plan) -> None:
     """They are what a loop finds that is written here."""
     prices = 0.2, 2.0, 20.0
     for item in members(corrected)[:6]:
-        offer = past_of(item, OWN, Prior(NONE), {REST: Asked(prices)})
+        offer = past_of(item, OWN, Prior(NONE), {REST: prices})
         weight = float(item.price or 0) / len(item.counts)
         unmet = [weight * unmet_on_past(item, price) for price in prices]
         assert offer.unmet == pytest.approx(unmet)

@@ -12,7 +12,7 @@ from crnplan.demand.learning import Prior
 from crnplan.formats import MOST_ITEMS
 from crnplan.plan.choice import best_of
 from crnplan.plan.how import NONE, Settings
-from crnplan.plan.offers import Asked, ByPrice, offer_of, past_of
+from crnplan.plan.offers import ByPrice, offer_of, past_of
 from crnplan.plan.prices import REST, Price, Prices
 from crnplan.plan.question import NoPolicy, Question, question_of
 from crnplan.read.bounds import OrderBounds
@@ -87,7 +87,7 @@ def test_offers_by_brute_force() -> None:
     prices = (0.1, 0.5, 3.0, 40.0)
     for item in SMALL:
         value = float(item.price or 0)
-        offer = offer_of(item, settings, Prior(NONE), {REST: Asked(prices)})
+        offer = offer_of(item, settings, Prior(NONE), {REST: prices})
         pairs = pairs_of(question_of(item, settings))
         for price, unmet in zip(prices, offer.unmet):
             whole = pairs[:, 2] + price * value * pairs[:, 3]
@@ -106,7 +106,7 @@ def test_bounds_that_leave_few_policies() -> None:
     fullest = question.theory.fullest()
     assert is_bounded and best.levels == fullest.levels
     settings = dataclasses.replace(question.settings, prices=None)
-    offer = offer_of(item, settings, Prior(NONE), {REST: Asked((0.01,))})
+    offer = offer_of(item, settings, Prior(NONE), {REST: (0.01,)})
     figures = question.figures(fullest.levels)
     asked_for = float(question.demand.mean) * float(item.price or 0)
     assert offer.unmet == pytest.approx([(1 - figures.fill) * asked_for])
@@ -131,7 +131,7 @@ def test_demand_in_boxes() -> None:
     levels = [best_of(question_of(it, priced(0.8)))[0].levels for it in (item, half)]
     assert levels[0] == levels[1]
     settings = dataclasses.replace(OWN, together={REST: WANTED})
-    asked = {REST: Asked((0.1, 0.8))}
+    asked = {REST: (0.1, 0.8)}
     offers = [offer_of(it, settings, Prior(NONE), asked) for it in (item, half)]
     for one, other in zip(*map(dataclasses.astuple, offers)):
         assert one == pytest.approx(other)

@@ -17,7 +17,7 @@ from crnplan.plan.choice import choice_of
 from crnplan.money import Currency
 from crnplan.plan.how import NONE
 from crnplan.plan.item import Depth
-from crnplan.plan.offers import Asked, past_of
+from crnplan.plan.offers import past_of
 from crnplan.plan.question import Question
 from crnplan.read.bounds import OrderBounds
 from crnplan.read.overrides import Override
@@ -179,7 +179,7 @@ def test_trials_of_prices_order_in_packs() -> None:
     for bounds in (OrderBounds(), PACK):
         facts = FILL | {"price": Fraction(3), "bounds": bounds}
         item = asked(counts=SLOW, **facts).item
-        offer = past_of(item, settings, Prior(NONE), {"": Asked((0.05, 1.0))})
+        offer = past_of(item, settings, Prior(NONE), {"": (0.05, 1.0)})
         unmet.append(offer.unmet)
     for exact, rounded in zip(*unmet):
         assert 0 < rounded < exact / 2

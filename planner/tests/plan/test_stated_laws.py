@@ -19,7 +19,7 @@ from crnplan.plan.answer import Answer
 from crnplan.plan.backtest.methods import PLANNED, Walk, Way
 from crnplan.plan.backtest.one import Backtest, backtest_item
 from crnplan.plan.item import Depth
-from crnplan.plan.offers import Asked, Offer, offer_of, past_of
+from crnplan.plan.offers import Offer, offer_of, past_of
 from crnplan.plan.one import or_fault, plan_one
 from crnplan.plan.question import NoPolicy, question_of
 from crnplan.plan.seasons import Seasons
@@ -148,7 +148,7 @@ def test_together_by_theory_and_on_the_past() -> None:
         "fill": Fraction(9, 10),
         "price": Fraction(2),
     }
-    asked = {"": Asked((1.0, 4.0))}
+    asked = {"": (1.0, 4.0)}
     settings = alone(together={"": 0.95})
     for counts in ((), (3, 0, 2, 7, 0, 0, 1, 4) * 4):
         item = stated(counts=counts, **words)

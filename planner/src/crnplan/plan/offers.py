@@ -23,13 +23,7 @@ MOST_TRIED, MOST_TAKEN = (
     1_000,
     600,
 )  # items of a group on the past, and those for certain
-
-
-@dataclass(frozen=True)
-class Asked:
-    """What is asked of the items of a group: what they leave unmet at some rising prices."""
-
-    prices: tuple[float, ...]
+Asked = tuple[float, ...]  # rising prices, at which items say what they leave unmet
 
 
 @dataclass(frozen=True)
@@ -104,7 +98,7 @@ def offer_of(
 ) -> Offer:
     """Returns the offer of an item by theory, as its group is asked. Raises Refused if it can't be planned."""
     question = question_of(item, settings, prior).flat
-    policies = ByPrice(question, asked[question.together or ""].prices)
+    policies = ByPrice(question, asked[question.together or ""])
     weight = item.box * weight_of(question.item)
     return Offer(
         weight * float(question.demand.mean), tuple((weight * policies.unmet).tolist())
@@ -116,7 +110,7 @@ def past_of(
 ) -> Offer:
     """Returns the offer of an item on its past: what policies by prices leave unmet in quarters of its record that they
     have not seen. Raises Refused if it can't be planned."""
-    prices = asked[settings.group_of(item) or ""].prices
+    prices = asked[settings.group_of(item) or ""]
 
     def planned(question: Question) -> list[Levels]:
         return ByPrice(question, prices).pairs

@@ -164,8 +164,7 @@ class Finding:
         names: Mapping[str, str],
     ) -> Iterator[tuple[str, Offer]]:
         """Returns in order the offers of items by name, which are kept in a store; `names` has their groups."""
-        text = repr([(group, dataclasses.astuple(asked[group])) for group in asked])
-        common = json.dumps([self.settings.common(self.part, self.prior), text])
+        common = json.dumps([self.settings.common(self.part, self.prior), asked])
         return each_answer(
             self.folder.store(kept),
             Offer,
@@ -192,7 +191,7 @@ class Finding:
         """Returns the prices of all groups. Raises Refused if a share is not met at any price."""
         grids = {group: rounded(GRID * unit) for group, unit in self.units.items()}
         in_coarse, in_finer, _ = self.stores
-        coarse = self.sums({group: Asked(grids[group]) for group in grids}, in_coarse)
+        coarse = self.sums(grids, in_coarse)
         places = {group: self.place_of(group, coarse[group]) for group in coarse}
         past = dict[str, OnPast]()
         if self.settings.correct:
@@ -203,7 +202,7 @@ class Finding:
             prices = {*rounded(np.geomspace(low, high, FINE + 1))}
             if group in past:
                 prices.add(past[group].price(self.settings.shares[group]))
-            asked[group] = Asked(tuple(sorted(prices)))
+            asked[group] = tuple(sorted(prices))
         finer = self.sums(asked, in_finer)
         return Prices(
             {
@@ -236,7 +235,7 @@ class Finding:
         drawn = {group: sums.drawn for group, sums in coarse.items()}
         names = {name: group for group, some in drawn.items() for name in some.names}
         asked = {
-            group: Asked(grids[group][max(place - 1, 0) : place + MORE + 1])
+            group: grids[group][max(place - 1, 0) : place + MORE + 1]
             for group, place in places.items()
         }
         ordered = {name: names[name] for name in sorted(names)}
@@ -254,7 +253,7 @@ class Finding:
                     f"plan without {argument('correct')}",
                 )
             met = met_on_past(own, some, sizes, coarse[group].asked)
-            shares[group] = OnPast(asked[group].prices, met, len(own))
+            shares[group] = OnPast(asked[group], met, len(own))
         return shares
 
     def sizes_of(self, names: Mapping[str, str]) -> dict[str, float]:
@@ -273,8 +272,8 @@ class Finding:
         """Returns the price of a group by the sums at finer prices, but no less than that of the past."""
         wanted, place = self.settings.shares[group], self.place_of(group, sums)
         if past:
-            place = max(place, asked.prices.index(past.price(wanted)))
-        price = asked.prices[place]
+            place = max(place, asked.index(past.price(wanted)))
+        price = asked[place]
         return Price(
             wanted,
             price,
