@@ -45,11 +45,11 @@ class Draws:
         """Adds an item. One without a size is never drawn."""
         if size <= 0:
             return
-        _keep(self._greatest, (size, name), self._most)
+        keep_greatest(self._greatest, (size, name), self._most)
         # As many may be taken for certain as are drawn.
         # A number above 0 and at most 1, which is as good as at random.
         uniform = (number_of(name, BITS) + 1) / 2.0**BITS
-        _keep(self._first, (-uniform / size, name, size), 2 * self._most)
+        keep_greatest(self._first, (-uniform / size, name, size), 2 * self._most)
 
     def drawn(self, total: float) -> DrawnItems:
         """Returns the items that are taken and drawn, of all whose sizes have this sum.
@@ -74,12 +74,10 @@ class Draws:
         return DrawnItems(certain, chances)
 
 
-def _keep(heap: list[Entry], entry: Entry, most: int) -> None:
+def keep_greatest(heap: list[Entry], entry: Entry, most: int) -> None:
     """Keeps the greatest entries, so many of them."""
-    if len(heap) < most:
-        heapq.heappush(heap, entry)
-    elif entry > heap[0]:
-        heapq.heapreplace(heap, entry)
+    keep = heapq.heappush if len(heap) < most else heapq.heappushpop
+    keep(heap, entry)
 
 
 def estimated(parts: Floats, sizes: Floats, chances: Floats, total: float) -> float:

@@ -2,7 +2,6 @@
 from __future__ import annotations
 
 import dataclasses
-import heapq
 import json
 from collections import Counter, defaultdict
 from collections.abc import Callable, Iterable, Iterator
@@ -20,6 +19,7 @@ from ..read.item import NO_DEMAND, STATED, TEACHING, Item
 from ..remarks import Remark
 from ..store.stored import Store
 from ..store.trees import value_of
+from .drawn import keep_greatest
 from .following import Following
 from .how import ALL, CLASS, NONE, Settings, without_season
 from .seasons import Seasons, whole_years
@@ -53,12 +53,8 @@ def drawn_of_groups(pairs: Iterable[tuple[str, str]], most: int) -> list[str]:
     good as at random. Pairs have a name and its group."""
     drawn = defaultdict[str, list[tuple[int, str]]](list)
     for name, group in pairs:
-        # A heap drops its least entry: with its sign turned, that is the greatest digest.
-        entry = -int(sha256(name), 16), name
-        if len(drawn[group]) < most:
-            heapq.heappush(drawn[group], entry)
-        else:
-            heapq.heappushpop(drawn[group], entry)
+        # With its sign turned, the least digest is the greatest.
+        keep_greatest(drawn[group], (-int(sha256(name), 16), name), most)
     return sorted(name for entries in drawn.values() for _, name in entries)
 
 

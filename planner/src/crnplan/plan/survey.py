@@ -1,7 +1,6 @@
 """Looks at all items of a plan once, for what its pages say of them together."""
 from __future__ import annotations
 
-import heapq
 from collections import defaultdict
 from collections.abc import Iterable, Iterator
 from dataclasses import replace
@@ -14,6 +13,7 @@ from ..read.items import Reject
 from ..remarks import Remark
 from .answer import Answer, Laws
 from .catalogue import Decided, PlannedFolder
+from .drawn import keep_greatest
 from .totals import Totals
 
 NO_LAWS = Laws(1, Law((), ()), Law((), ()), None)
@@ -64,7 +64,6 @@ class Survey:
             if isinstance(answer, Remark) and item.past not in UNORDERED:
                 self._note_fault(item, answer)
             else:
-                self._note(item, answer)
                 self._keep(place, item, answer)
             yield item, answer
 
@@ -90,17 +89,12 @@ class Survey:
                 / max(len(item.known.counts), 1)
             )
 
-    def _note(self, item: Item, answer: Answer | Remark) -> None:
-        if isinstance(answer, Answer) and answer.is_compared:
-            self.classes[item.category].add(item, answer)
-
     def _keep(self, place: int, item: Item, answer: Answer | Remark) -> None:
-        """Keeps a decision that is one of the greatest so far, but not its laws, which take most of the memory."""
-        size, is_full = abs(saving_of(answer) or 0.0), len(self._kept) == self._most
-        if is_full and (not self._most or size <= self._kept[0][0]):
-            return
+        """Adds a decision to its class, and keeps it if it is one of the greatest so far, but not its laws, which take most
+        of the memory."""
+        size = abs(saving_of(answer) or 0.0)
         if isinstance(answer, Answer):
+            if answer.is_compared:
+                self.classes[item.category].add(item, answer)
             answer = replace(answer, laws=NO_LAWS)
-        (heapq.heapreplace if is_full else heapq.heappush)(
-            self._kept, (size, -place, (item, answer))
-        )
+        keep_greatest(self._kept, (size, -place, (item, answer)), self._most)
