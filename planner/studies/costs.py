@@ -219,7 +219,7 @@ def samples(catalogue: Catalogue, tests: Sequence[Tested]) -> Floats:
 
 def factors_of(tests: Sequence[Tested], weights: Floats) -> Floats:
     """Returns by sample the factor of the promise of each item: that of its class."""
-    _, classes = classed(tests)
+    _, classes = classed(tests, list)
     factors = np.empty_like(weights)
     for own in classes:
         places = [place for place, test in enumerate(tests) if test in own]

@@ -7,9 +7,9 @@ from __future__ import annotations
 
 import itertools
 import math
-from collections.abc import Sequence
+from collections.abc import Callable, Sequence
 from dataclasses import dataclass
-from typing import Any
+from typing import Any, TypeVar
 
 import numpy as np
 
@@ -21,6 +21,7 @@ LOGS = np.log1p(-np.array(FILLS))
 MOST = 0.999  # An aim is no higher: what is unmet there, more stock hardly meets.
 CLASSES = ("slow", "fast")
 LEAST_CLASS = 15  # Smaller classes have what all items have.
+Known = TypeVar("Known")  # of a class, by its trials
 
 
 @dataclass(frozen=True)
@@ -46,15 +47,17 @@ class CostTrial:
     cost: float
 
 
-def classed(trials: Sequence[Any]) -> tuple[float, list[Sequence[Any]]]:
-    """Returns the median of the mean demand of items, and the trials of slow ones, which have up to that, and of fast
-    ones. A class of fewer than 15 has all of them."""
+def classed(
+    trials: Sequence[Any], known_of: Callable[[Sequence[Any]], Known]
+) -> tuple[float, tuple[Known, ...]]:
+    """Returns the median of the mean demand of items, and what is known by the trials of slow ones, which have up to that,
+    and of fast ones. A class of fewer than 15 has all of them."""
     means = np.array([trial.mean for trial in trials])
-    speed, classes = float(np.median(means)), list[Sequence[Any]]()
+    speed, classes = float(np.median(means)), list[Known]()
     for is_in in (means <= speed, means > speed):
         own = [*itertools.compress(trials, is_in)]
-        classes.append(own if len(own) >= LEAST_CLASS else trials)
-    return speed, classes
+        classes.append(known_of(own if len(own) >= LEAST_CLASS else trials))
+    return speed, tuple(classes)
 
 
 def is_fast(counts: Sequence[float], speed: float) -> bool:
@@ -109,8 +112,7 @@ class Aims:
     @classmethod
     def of(cls, trials: Sequence[Trial]) -> Aims:
         """Learns from trials. A class of fewer than 15 items has those of all."""
-        speed, classes = classed(trials)
-        return cls(speed, tuple(map(Tried.of, classes)))
+        return cls(*classed(trials, Tried.of))
 
     def of_item(self, counts: Sequence[float]) -> Tried:
         """Returns what is known of the class of an item."""
@@ -155,8 +157,7 @@ class Overruns:
     @classmethod
     def of(cls, trials: Sequence[CostTrial]) -> Overruns:
         """Learns from trials. A class of fewer than 15 items has those of all."""
-        speed, classes = classed(trials)
-        return cls(speed, tuple(map(Overrun.of, classes)))
+        return cls(*classed(trials, Overrun.of))
 
     def of_item(self, counts: Sequence[float]) -> Overrun:
         """Returns what is known of the class of an item."""

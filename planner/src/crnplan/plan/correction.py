@@ -150,16 +150,18 @@ def cost_trial_of(item: Item, settings: Settings, prior: Prior) -> CostTrial:
 
 
 class TrialKind(NamedTuple):
-    """What is tried on the past: of items with a fact, by a function, whose answers are kept in a store."""
+    """What is tried on the past: of items with a fact, by a function, whose answers are kept in a store, and what these
+    say together."""
 
     fact: str
     trial: Callable[[Item, Settings, Prior], Any]
     answer: type[Any]
     store: str
+    found: Callable[[Sequence[Any]], Any]
 
 
-OF_FILLS = TrialKind("fill", trial_of, Trial, TRIALS)
-OF_COSTS = TrialKind("backlog", cost_trial_of, CostTrial, COST_TRIALS)
+OF_FILLS = TrialKind("fill", trial_of, Trial, TRIALS, Aims.of)
+OF_COSTS = TrialKind("backlog", cost_trial_of, CostTrial, COST_TRIALS, Overruns.of)
 
 
 def tried_names(read: Catalogued, kind: TrialKind = OF_FILLS) -> list[str]:
@@ -261,19 +263,19 @@ def corrections_of(
     again as it is, also if items change, unless it is to be learned `again`, or items are planned in another way. Trials
     are kept in the folder."""
 
+    def found(kind: TrialKind, on: Settings) -> tuple[Any, int | None]:
+        """Returns what the past says by trials of a kind, None if they are too few, and how many they are."""
+        if not tried_names(read, kind):
+            return None, None
+        tried = tried_on(folder, read, on, prior, means, kind)
+        return kind.found(tried) if len(tried) >= LEAST_ITEMS else None, len(tried)
+
     def learned() -> Corrections:
-        tried: list[Any] | None = None
-        costs: list[Any] | None = None
-        if has_aims and tried_names(read):
-            on = ways_of(settings)
-            tried = tried_on(folder, read, on, prior, means)
-        aims = Aims.of(tried) if tried and len(tried) >= LEAST_ITEMS else None
-        if tried_names(read, OF_COSTS):
-            on = cost_ways_of(settings, aims)
-            costs = tried_on(folder, read, on, prior, means, OF_COSTS)
-        overruns = Overruns.of(costs) if costs and len(costs) >= LEAST_ITEMS else None
-        counts = (None if some is None else len(some) for some in (tried, costs))
-        return Corrections(aims, overruns, *counts)
+        aims, fills = None, None
+        if has_aims:
+            aims, fills = found(OF_FILLS, ways_of(settings))
+        overruns, costs = found(OF_COSTS, cost_ways_of(settings, aims))
+        return Corrections(aims, overruns, fills, costs)
 
     basis = [has_aims, cost_ways_of(settings, None).common("", prior)]
     return learned_once(answers, AIMS, Corrections, basis, again, learned)
