@@ -29,7 +29,7 @@ from .answer import ALONE, CHOSEN, THEORY, TODAY, Answer, Figures
 from .checked_run import RunSample
 from .choice import LAWS, allowed_by, choice_of
 from .one import plan_one
-from .question import Levels, Question, question_of, terms_of
+from .question import Levels, Question, question_of, rounded
 
 
 class ShownPolicy(NamedTuple):
@@ -90,18 +90,12 @@ class Depth:
     @cached_property
     def levels(self) -> dict[str, Levels]:
         """Returns s and S of the answer's policies in boxes, the base first."""
-        question, answer = self.question, self.answer
         levels = dict[str, Levels]()
-        for name, policy in (
-            (TODAY, answer.today),
-            (CHOSEN, answer.chosen),
-            (ALONE, answer.alone),
-        ):
-            if policy and question.levels and policy.levels == question.item.levels:
-                levels[name] = question.levels
-            elif policy:
-                box = question.item.box
-                levels[name] = policy.point // box, policy.level // box
+        for name in (TODAY, CHOSEN, ALONE):
+            policy = getattr(self.answer, name)
+            boxes = rounded(policy and policy.levels, self.question.item.box)
+            if boxes:
+                levels[name] = boxes
         return levels
 
     @property

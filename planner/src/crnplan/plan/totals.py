@@ -23,6 +23,7 @@ from .answer import (
     Figures,
     Share,
 )
+from .prices import weight_of
 
 if TYPE_CHECKING:
     import pandas as pd
@@ -33,7 +34,7 @@ UNCOMPARED = "uncompared"
 
 def asked_value(item: Item, answer: Answer) -> float:
     """Returns the value of the demand of a period, in money; 0 without a price."""
-    return float(item.price or 0) * answer.law.mean
+    return weight_of(item) * answer.law.mean
 
 
 def policy_sums(
@@ -46,7 +47,7 @@ def policy_sums(
         f"ordering_{name}": parts.orders,
         f"holding_{name}": parts.stock,
         f"late_{name}": parts.late,
-        f"value_{name}": float(item.price or 0) * figures.stock,
+        f"value_{name}": weight_of(item) * figures.stock,
         f"met_{name}": asked_value(item, answer) * figures.fill,
         f"fill_{name}": figures.fill,
         f"orders_{name}": figures.orders,
