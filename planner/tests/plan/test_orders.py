@@ -42,9 +42,7 @@ def today_of(
     *standings: Standing, minimums: Any = None, sellers: Sequence[str] = ()
 ) -> Today:
     """Returns what these items say on the Friday."""
-    return Today(
-        FRIDAY, FRIDAY, standings, [], [], minimums or {}, True, {}, [], sellers
-    )
+    return Today(FRIDAY, FRIDAY, standings, [], [], minimums or {}, True, sellers)
 
 
 @pytest.mark.parametrize("case", CASES["risks"], ids=str)

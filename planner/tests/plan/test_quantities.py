@@ -172,7 +172,7 @@ def test_items_that_are_not_known(folder: Path, stock: pd.DataFrame) -> None:
     orders = plan.orders_today(stock, date=FRIDAY, quantities=rows)
     left = orders.left_out.set_index("item")
     assert left.reason["X-1"] == "no item of the plan has this name"
-    assert orders.today.counts["quantities"]["used"] == 2
+    assert orders.today.holdings.counts["quantities"]["used"] == 2
     unknown = orders.frame[orders.frame.placed.isna()]
     assert [*unknown.item] == ["P00005"]
     said = "quantities: the stock of P00005 is not known; add it to the stock, or write"

@@ -269,7 +269,7 @@ def test_additions_are_shown(offered: dict[str, Standing]) -> None:
     counts = (1, *[0] * 60)
     item = item_of(name="dead", supplier="ABB", price=Fraction(7, 2), counts=counts)
     dead, least = [Lying(item, OnHand(Fraction(4)))], {"Bosch": Fraction(83)}
-    today = OrdersToday(Today(FRIDAY, FRIDAY, items, [], dead, least, False, {}, []))
+    today = OrdersToday(Today(FRIDAY, FRIDAY, items, [], dead, least, False))
     added = today.added[["item", "placed", "value", "total"]]
     assert added.values.tolist() == [["near", 10, 20, 65], ["fast", 6, 18, 83]]
     groups = today.groups[today.groups.group == "supplier"]

@@ -149,7 +149,7 @@ def test_placed_orders_that_cannot_be_read(folder: Path, stock: pd.DataFrame) ->
     assert orders.frame.set_index("item").code[name] == "unread stock"
     left = orders.left_out[orders.left_out.file == "placed"]
     assert [*left.item] == [name, "X-2"]
-    assert orders.today.counts["placed"]["rejected"] == 1
+    assert orders.today.holdings.counts["placed"]["rejected"] == 1
 
 
 def test_orders_of_the_day_as_placed(

@@ -155,7 +155,7 @@ def orders() -> OrdersToday:
     """Returns what these items say on the Friday."""
     items = [standing(name) for name in STOCKS]
     dead, ended = [lying_of("dead")], [lying_of("ended")]
-    today = Today(FRIDAY, FRIDAY, items, [], dead, {}, True, {}, [], [""], ended=ended)
+    today = Today(FRIDAY, FRIDAY, items, [], dead, {}, True, [""], ended=ended)
     return OrdersToday(today, "week")
 
 

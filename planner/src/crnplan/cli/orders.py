@@ -45,7 +45,7 @@ def today(
     if xlsx:
         orders.to_excel(xlsx)
     click.echo(orders.tables[table].csv if table else orders.text, nl=False)
-    return status_of([] if anyway else hardly_read(orders.today.counts))
+    return status_of([] if anyway else hardly_read(orders.today.holdings.counts))
 
 
 @command()
@@ -69,4 +69,4 @@ def report(
     click.echo(page)
     if orders is None or anyway:
         return 0
-    return status_of(hardly_read(orders.today.counts))
+    return status_of(hardly_read(orders.today.holdings.counts))

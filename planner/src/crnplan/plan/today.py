@@ -7,18 +7,17 @@ import math
 from bisect import bisect_left
 from collections import defaultdict
 from collections.abc import Iterable, Iterator, Mapping, Sequence
-from dataclasses import dataclass, field
+from dataclasses import dataclass
 from difflib import get_close_matches
 from fractions import Fraction
 from functools import cached_property
-from operator import attrgetter, itemgetter
+from operator import attrgetter
 from typing import Any
 
 from ..errors import Refused, argument
-from ..read.controls import Controls
 from ..read.dates import first_day
 from ..read.item import ENDED, NO_DEMAND, Item, value_of
-from ..read.items import FileCounts, Reject, Reading
+from ..read.items import Reading
 from ..read.observed import Day
 from ..read.opening import Table
 from ..read.quiet import QUIET, is_dead, quiet_periods
@@ -126,13 +125,11 @@ class OrderGroup:
 
     def additions(self) -> Iterator[Addition]:
         """Yields what to add next, the item nearest above s in weeks first, until the minimum is met."""
-        total = self.value
-        waiting = list[tuple[float, str, Standing]]()
-        for standing in self.standings:
-            weeks = standing.weeks_above
-            if not standing.is_due and standing.to_level > 0 and weeks is not None:
-                waiting.append((weeks, standing.item.name, standing))
-        for _, _, standing in sorted(waiting, key=itemgetter(0, 1)):
+        total, waiting = self.value, list[Standing]()
+        for it in self.standings:
+            if not it.is_due and it.to_level > 0 and it.weeks_above is not None:
+                waiting.append(it)
+        for standing in sorted(waiting, key=attrgetter("weeks_above", "item.name")):
             worth = standing.placed_worth
             if self.minimum is None or total >= self.minimum:
                 return
@@ -149,10 +146,9 @@ def sum_of_money(parts: Iterable[Worth]) -> Fraction:
 @dataclass(frozen=True)
 class Today:
     """What a plan says on a day: the items whose stock is known, the most urgent order first, those that are `unknown`,
-    with the reason, those that lie too long, and those that have `ended`. `end` is the last day of the record. `counts`
-    and `rejects` say what became of the rows of tables, `controls` what they come to, and `said` what is to be said of
-    them. `sellers` are all suppliers of the plan in order, with an empty name of items without one. `has_quantities` says
-    whether a planner has named quantities.
+    with the reason, those that lie too long, and those that have `ended`. `end` is the last day of the record. `holdings`
+    are what tables say. `sellers` are all suppliers of the plan in order, with an empty name of items without one.
+    `has_quantities` says whether a planner has named quantities.
     """
 
     day: Day
@@ -162,13 +158,10 @@ class Today:
     dead: Sequence[Lying]
     minimums: Mapping[str, Fraction]
     has_orders: bool
-    counts: Mapping[str, FileCounts]
-    rejects: Sequence[Reject]
     sellers: Sequence[str] = ("",)
     ended: Sequence[Lying] = ()
-    said: Sequence[Remark] = ()
-    controls: Controls = field(default_factory=dict)
     has_quantities: bool = False
+    holdings: Holdings = Holdings(None, {}, {}, frozenset(), {}, ())
 
     @cached_property
     def whole(self) -> OrderGroup:
@@ -178,13 +171,12 @@ class Today:
     @property
     def above(self) -> list[Standing]:
         """Returns the items above S, those that last longest first."""
-        above = list[tuple[float, str, Standing]]()
-        for standing in self.standings:
-            if standing.above:
-                weeks = standing.weeks_of(standing.above) or math.inf
-                above.append((-weeks, standing.item.name, standing))
-        above.sort(key=itemgetter(0, 1))
-        return [standing for _, _, standing in above]
+
+        def order(standing: Standing) -> tuple[float, str]:
+            weeks = standing.weeks_of(standing.above) or math.inf
+            return -weeks, standing.item.name
+
+        return sorted((it for it in self.standings if it.above), key=order)
 
     @property
     def owed(self) -> list[Standing]:
@@ -457,11 +449,8 @@ class Days:
             dead=found.dead,
             minimums=minimums_of(found.items, self.words.supplier_min),
             has_orders=any(tables.get(kind) is not None for kind in TO_COME),
-            counts=holdings.counts,
-            rejects=holdings.rejects,
             sellers=sorted({item.supplier for item in found.items}),
             ended=found.ended,
-            said=holdings.remarks,
-            controls=holdings.controls,
             has_quantities=tables.get(QUANTITIES) is not None,
+            holdings=holdings,
         )

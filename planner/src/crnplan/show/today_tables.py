@@ -236,9 +236,11 @@ class OrdersToday(Result):
             case "lines":
                 return self._lines(today.suppliers)
             case "controls":
-                return controls_of(today.controls, currency.decimals, currency.code)
+                return controls_of(
+                    today.holdings.controls, currency.decimals, currency.code
+                )
             case "left_out":
-                return rejects_of(today.rejects, self.keys)
+                return rejects_of(today.holdings.rejects, self.keys)
         rows: dict[str, Callable[[], Iterable[object]]] = {
             "lists": lambda: listed(today),
             "groups": lambda: itertools.chain(
@@ -359,8 +361,8 @@ class OrdersToday(Result):
                 "today": today,
                 "whole": today.whole,
                 "omitted": named_orders(today.omitted, "planned"),
-                "files": counted_rows(today.counts),
-                "reasons": reasons_of(today.rejects),
+                "files": counted_rows(today.holdings.counts),
+                "reasons": reasons_of(today.holdings.rejects),
                 "short": [*map(short_of, today.short.values())],
                 "unknown": names_of(
                     [item.name for item, _ in today.unknown], MOST_NAMED
