@@ -28,9 +28,9 @@ import numpy as np
 import pandas as pd
 
 from crnplan.demand.checks import (
+    checks_of,
     largest_periods,
     largest_places,
-    remarks_of,
     share_of_variance,
 )
 from crnplan.demand.learning import Prior
@@ -82,7 +82,8 @@ def broken(job: Job, fill: Fraction) -> bool:
 
 def codes_of(record: Sequence[int]) -> list[str]:
     """Returns the codes of a record."""
-    codes = [remark.code for remark in remarks_of(record, "week", 0)]
+    checks = checks_of(record, "week", 0, False)
+    codes = [remark.code for remark in (*checks.warnings, *checks.notes)]
     return codes + [
         name
         for name, count in DECIDING.items()

@@ -138,22 +138,6 @@ def check_history(demand: Iterable[Number], *, season: int | None = None) -> Che
     return checks
 
 
-def remarks_of(
-    numbers: Sequence[int],
-    every: str | None = None,
-    first: int = 1,
-    places: Sequence[int] | None = None,
-    sold: Sequence[int] | None = None,
-    rates: Floats | None = None,
-) -> tuple[Remark, ...]:
-    """Returns the warnings and the notes of `check_history` on whole numbers, which takes a few milliseconds. `every`
-    is their period, if they have dates, `first` the number of the first one, and `places` has those of all, from 0: by
-    default they stand one after another. If the numbers are without a season, the notes name what was `sold`, at which `rates`.
-    """
-    checks = checks_of(numbers, every, first, False, places, sold, rates)
-    return *checks.warnings, *checks.notes
-
-
 def checks_of(
     numbers: Sequence[int],
     every: str | None = None,
@@ -164,8 +148,11 @@ def checks_of(
     rates: Floats | None = None,
     season: int | None = None,
 ) -> Checks:
-    """Returns the checks of whole numbers; in full with the p values of all tests, and with the largest demands. All else is
-    as in `remarks_of`, and `season` as in `check_history`."""
+    """Returns the checks of whole numbers; in full with the p values of all tests, and with the largest demands, else they
+    take a few milliseconds. `every` is their period, if they have dates, `first` the number of the first one, and `places`
+    has those of all, from 0: by default they stand one after another. If the numbers are without a season, the notes name
+    what was `sold`, at which `rates`. `season` is as in `check_history`.
+    """
     if places is None or not places or len(places) == places[-1] + 1:
         places = None  # the numbers have no gaps
     size = len(numbers) if places is None else places[-1] + 1
@@ -273,7 +260,7 @@ def largest_periods(
     places: Sequence[int] | None = None,
 ) -> tuple[Remark, ...]:
     """Returns a remark on the three largest demands, with their periods and the share of the variance that they make;
-    nothing if fewer than 10 periods have demand. `every`, `first` and `places` are those of `remarks_of`.
+    nothing if fewer than 10 periods have demand. `every`, `first` and `places` are those of `checks_of`.
     """
     if len(numbers) - numbers.count(0) < LEAST_DEMANDS:
         return ()

@@ -16,7 +16,7 @@ import numpy as np
 
 from ..compiled import load_compiler
 from ..demand import EMPIRICAL
-from ..demand.checks import remarks_of as checked
+from ..demand.checks import checks_of
 from ..demand.fitted import FittedLaw
 from ..demand.learning import Prior
 from ..errors import Refused
@@ -186,14 +186,16 @@ def remarks_of_past(question: Question, levels: Levels) -> Iterator[Remark]:
         yield Remark("new", facts)
         return
     places, season = item.known_places, question.season
-    yield from checked(
+    checks = checks_of(
         item.known.counts,
         settings.every,
         item.first,
+        False,
         places,
         season.item.known.counts if season else None,
         season.by_period[places] if season else None,
     )
+    yield from (*checks.warnings, *checks.notes)
     if question.of_record.lower:
         yield question.of_record.lower
     if item.demands < LEAST_DEMANDS:
