@@ -57,9 +57,9 @@ def below_0(number: int, most: int) -> str:
     return "is below 0; correct it" if number < 0 else ""
 
 
-def boxes_of(observed: Iterable[Number], box: int, name: str = "demand") -> list[int]:
-    """Returns the demand that is known in boxes of `box` items, rounded up. Raises RefusedFaults with the name and the place
-    of each number that is too large for a scenario or below 0."""
+def boxes_of(observed: Iterable[Number], box: int) -> list[int]:
+    """Returns the demand that is known in boxes of `box` items, rounded up. Raises RefusedFaults with the place of each
+    number that is too large for a scenario or below 0."""
 
     def wrong(number: int, most: int) -> str:
         if number <= box * MOST_DEMAND:
@@ -69,7 +69,7 @@ def boxes_of(observed: Iterable[Number], box: int, name: str = "demand") -> list
             f"{argument('box', str(-(-most // MOST_DEMAND)))} or more"
         )
 
-    numbers = numbers_of(observed, name, wrong, may_lack=True)
+    numbers = numbers_of(observed, "demand", wrong, may_lack=True)
     return [-(-number // box) for number in numbers]
 
 

@@ -174,16 +174,15 @@ def allowed_laws(
     times: int = 100,
     box: int = 1,
     seed: int = 1,
-    name: str = "demand",
 ) -> tuple[Law, ...]:
     """Draws laws of demand that a history allows, whose weights add up to 65,536. The same seed gives the same laws.
 
-    `observed` and `box` are as in `fit_demand`, and so is what is raised, with the name of the numbers. No law has demands above some times the
+    `observed` and `box` are as in `fit_demand`, and so is what is raised. No law has demands above some times the
     largest one seen (`end_of`: 9 times after 2 demands, 4 after 12, 2 after 172), those above 10,000 count as 10,000,
     and what is less likely than 1 in 131,072 is left out. A law has at least one demand above 0, if the history has.
     """
     random = np.random.default_rng([seed, 0])
-    sample = Sample.of(boxes_of(observed, box, name))
+    sample = Sample.of(boxes_of(observed, box))
     laws = demand_laws(sample, times, random)
     return tuple(law_of_chances(law, sample.most) for law in laws)
 
