@@ -165,7 +165,8 @@ def figures_by_level(demand: Pair, back: Pair | None, step: int, gap: int) -> Fl
     if the lattice is exact."""
     theory, scenario = late_theory(demand, back, step)
     if not theory.exact:
-        count = max(int(theory.floor(gap)), gap + theory.beside + theory.after.high) + 2
+        least = -(-(theory.items(gap) + theory.feasible.least_point) // step)
+        count = max(least, gap + theory.beside + theory.after.high) + 2
         stock, unmet = means_by_level(theory, gap, count)[[STOCK_LEFT, UNMET]]
         return np.array([stock, unmet, np.full(len(stock), 1 / theory.periods(gap))])
     short, levels = shortfall_of(scenario, gap), np.arange(110)

@@ -29,10 +29,6 @@ class Feasible:
         """Returns the greatest S - s; below 0 if no S is as high as the least s."""
         return min(self.most_level - self.least_point, self.most_gap)
 
-    def top_of(self, point: int) -> int:
-        """Returns the greatest S of an s that may be chosen."""
-        return min(self.most_level, point + self.most_gap)
-
     def gap_in(self, cell: Places, step: int, exact: bool) -> Places:
         """Returns S - s for cells of a lattice: the least in the cell; if the lattice is not exact, one from its middle
         on if there is one, and room for it up to the greatest gap. If there is none in the cell, it is beyond.

@@ -99,11 +99,6 @@ def evened(lows: Floats, table: Floats) -> tuple[Floats, int]:
     return np.concatenate([added, np.cumsum(table[:3], axis=1)]), even
 
 
-def place_of_least(costs: Floats, ratio: float = 1 + NEAR) -> int:
-    """Returns the place of the least cost, the first one if others are equal but for rounding: up to a ratio."""
-    return int((costs <= costs.min() * ratio).argmax())
-
-
 class LongRun(Figured):
     """The figures of a scenario's policies on a lattice, and searches for the cheapest of feasible ones, which look at
     all gaps that matter, unless these take too long."""
@@ -166,11 +161,6 @@ class LongRun(Figured):
         return bool(self.fits(gap, policy.level - self.items(gap), policy.level))
 
     @property
-    def usual_gap(self) -> float:
-        """Returns the gap of the economic order quantity (Zipkin 2000, section 3.2)."""
-        return math.sqrt(2 * self.setup * self.one.mean / (self.holding * self.step))
-
-    @property
     def ratio(self) -> float:
         """Returns the share of periods without backlog that is best for a newsvendor, but for rounding."""
         return self.backlog / (self.backlog + self.holding) * (1 - NEAR)
@@ -206,10 +196,6 @@ class LongRun(Figured):
         """Returns a few gaps that feasible policies may have, further apart as they grow; none if there are none."""
         gaps = self.every_gap(0, self.most)
         return gaps[gap_grid(len(gaps) - 1)[::FEW]] if len(gaps) else gaps
-
-    def floor(self, gap: Places) -> Places:
-        """Returns the least feasible level of a gap, in cells."""
-        return -(-(self.items(gap) + self.feasible.least_point) // self.step)
 
     def policy(self, gap: int, level: int, point: int | None = None) -> Candidate:
         """Returns the policy of a gap with a level, and perhaps a point; none if it is not feasible."""
@@ -270,7 +256,8 @@ class LongRun(Figured):
         # Levels are no less than their gaps, if these are nested and no s is below 0.
         origin = 2 if is_nested and feasible and feasible.least_point >= 0 else width
         # With a level below the last one, nothing is ever owed.
-        last = max(int(self.floor(gaps[-1])), width - above + self.after.high) + 1
+        least = self.items(int(gaps[-1])) + self.feasible.least_point
+        last = max(-(-least // self.step), width - above + self.after.high) + 1
         cells = np.arange(above - origin, above + last + 1)
         table = self.figures_from(self.step * cells, is_nested)
         top = feasible.most_level if feasible else MOST_LEVEL
@@ -370,15 +357,18 @@ class LongRun(Figured):
         if not len(gaps):
             return NO_POLICY
         levels, costs = self.levels_of(gaps, sought, known)
-        # With several lead times, transforms have rounded the costs.
-        best = place_of_least(costs, 1 + NEAR if self.is_nested else CLOSE)
+        # The first of costs that are equal but for rounding. With several lead times, transforms have rounded them.
+        ratio = 1 + NEAR if self.is_nested else CLOSE
+        best = int((costs <= costs.min() * ratio).argmax())
         return Candidate(float(costs[best]), int(gaps[best]), int(levels[best]))
 
     def cheapest(self, sought: Sought) -> Candidate:
         """Returns the cheapest policy of all gaps that may cost least, or what a search finds if these take too long.
         Its gap stands in place of the reorder point."""
         grid = self.grid()
-        usual = min(self.most, round(self.usual_gap))
+        # The gap of the economic order quantity (Zipkin 2000, section 3.2).
+        gap = math.sqrt(2 * self.setup * self.one.mean / (self.holding * self.step))
+        usual = min(self.most, round(gap))
         most = self.most
         known = NO_POLICY
         first = self.every_gap(usual, usual)
@@ -471,7 +461,7 @@ class LongRun(Figured):
         """
         rests = sorted({0, -point % self.step, self.step - 1}) if self.exact else [0]
         found = [self.best_with_rest(point, rest) for rest in rests]
-        top = self.feasible.top_of(point)
+        top = min(self.feasible.most_level, point + self.feasible.most_gap)
         if len(rests) > 1 and top < ALL.most_level:
             found.append(self.policy(self.gap_of(point, top), top, point))
         return min(found)
