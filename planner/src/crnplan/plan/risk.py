@@ -84,16 +84,12 @@ class Risk:
             return self.standing.horizons
         return {math.ceil(self.days / DAYS[self.standing.every]): 1.0}
 
-    def _due_on(self, day: Day | None) -> Fraction:
-        """Returns how many items are due on a day, or without one."""
-        return items_of(
-            arrival for arrival in self.standing.arrivals if arrival.due == day
-        )
-
     @cached_property
     def there(self) -> Fraction:
         """Returns the stock less what is owed, with what is due on the day."""
-        return self.standing.there + self._due_on(self.standing.day)
+        standing = self.standing
+        due = (it for it in standing.arrivals if it.due == standing.day)
+        return standing.there + items_of(due)
 
     @property
     def ends_before(self) -> bool:
