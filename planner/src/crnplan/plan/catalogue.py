@@ -371,27 +371,6 @@ def answered(
     work.store.finish(work.questions(), planned.planned.facts | {TOTALS: totals.json})
 
 
-def corrected(
-    folder: Folder,
-    answers: Store[Answer],
-    read: Catalogued,
-    settings: Settings,
-    learned: Learned,
-    means: Means,
-    again: bool,
-) -> tuple[Settings, Learned]:
-    """Returns settings with what the past of a catalogue corrects, if it is to, and remarks on what it does not beside
-    others on what was learned. Raises Refused if nothing is corrected."""
-    if not settings.correct:
-        return settings, learned
-    has_aims, prior = wants_aims(read, settings), learned.prior
-    found = corrections_of(
-        folder, answers, read, settings, prior, means, again, has_aims
-    )
-    settings, remarks = found.settled(settings)
-    return settings, learned._replace(remarks=(*learned.remarks, *remarks))
-
-
 @contextlib.contextmanager
 def planning(
     folder: Folder, settings: Settings, means: Means, after: Path | None, again: bool
@@ -415,14 +394,15 @@ def planning(
         learned = learned_of(answers, read, settings, again)
         prior, every = learned.prior, read.fact("every")
         settings = dataclasses.replace(settings, borrow=learned.usual, every=every)
-        settings, learned = corrected(
-            folder, answers, read, settings, learned, means, again
-        )
+        if settings.correct:
+            words = folder, answers, read, settings, prior, means, again
+            found = corrections_of(*words, wants_aims(read, settings))
+            settings, remarks = found.settled(settings)
+            learned = learned._replace(remarks=(*learned.remarks, *remarks))
         if settings.shares:
             prices = prices_of(folder, answers, read, settings, prior, means, again)
-            settings = dataclasses.replace(
-                settings, prices=prices if prices.groups else None
-            )
+            if prices.groups:
+                settings = dataclasses.replace(settings, prices=prices)
         base = settings.common(means.program_digest(path), prior)
         planned = Planned(settings, prior, base, earlier.digest if earlier else "")
         work = Work(
