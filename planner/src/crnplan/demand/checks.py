@@ -132,8 +132,9 @@ def check_history(demand: Iterable[Number], *, season: int | None = None) -> Che
     checks = checks_of(numbers, places=places, season=season)
     lacking = places[-1] + 1 - len(places)
     if lacking:
-        facts: dict[str, Value] = {"count": lacking, "periods": places[-1] + 1}
-        note = Remark("periods are unknown", facts)
+        note = Remark(
+            "periods are unknown", {"count": lacking, "periods": places[-1] + 1}
+        )
         checks = replace(checks, notes=(note, *checks.notes))
     return checks
 

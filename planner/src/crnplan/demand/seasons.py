@@ -11,7 +11,7 @@ from dateutil.easter import easter
 
 from ..chances import Floats, Whole
 from ..read.dates import first_day, period_of
-from ..remarks import Remark, Value
+from ..remarks import Remark
 
 # The seasons of dated periods: their names, with how many periods each has.
 CALENDAR: dict[str | None, dict[str, int]] = {
@@ -150,10 +150,10 @@ def seasons_of(
         if size >= YEARS * own:
             seasons.append(season_of(name, own, calendar, first, size))
         else:
-            facts: dict[str, Value] = {
-                "season": name,
-                "periods": YEARS * own,
-                "unit": every or "period",
-            }
-            untested.append(Remark("season untested", facts))
+            untested.append(
+                Remark(
+                    "season untested",
+                    {"season": name, "periods": YEARS * own, "unit": every or "period"},
+                )
+            )
     return seasons, untested

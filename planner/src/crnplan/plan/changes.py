@@ -113,8 +113,7 @@ def rows_of(old: Item, new: Item, stop: int) -> Iterator[Remark]:
         if not changed and old.first == new.first:
             rows = new.rows - old.rows
         items = sum(asked for asked, *_ in added)
-        facts = {"periods": len(added), "rows": rows, "items": items}
-        yield Remark("new rows", facts)
+        yield Remark("new rows", {"periods": len(added), "rows": rows, "items": items})
     if changed:
         items = sum(after[0] - before[0] for before, after in zip(then, now))
         yield Remark("changed rows", {"periods": changed, "items": items})
@@ -157,13 +156,15 @@ def reasons_of(
     yield from masters_of(old_item, new_item, old_answer.chosen.levels)
     before, after = old_answer.law, new_answer.law
     if (before.mean, before.spread) != (after.mean, after.spread):
-        facts = {
-            "mean before": before.mean,
-            "mean after": after.mean,
-            "spread before": before.spread,
-            "spread after": after.spread,
-        }
-        yield Remark("other law", facts)
+        yield Remark(
+            "other law",
+            {
+                "mean before": before.mean,
+                "mean after": after.mean,
+                "spread before": before.spread,
+                "spread after": after.spread,
+            },
+        )
     yield from common
 
 

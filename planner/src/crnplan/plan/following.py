@@ -31,8 +31,7 @@ class AtLevel:
     @property
     def remark(self) -> Remark:
         """Returns what is to be said of it."""
-        facts = {"factor": self.factor, "weight": self.weight}
-        return Remark("level followed", facts)
+        return Remark("level followed", {"factor": self.factor, "weight": self.weight})
 
 
 @dataclass(frozen=True)

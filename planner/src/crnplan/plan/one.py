@@ -149,11 +149,17 @@ def remarks_of_cut(question: Question) -> Iterator[Remark]:
     item, expected = question.item, question.expected
     if not item.cut:
         return
-    facts: dict[str, Value] = {"periods": len(item.cut), "used": len(expected)}
     sold = sum(question.as_read.least)
     asked = round(sum(expected) * sold / sum(item.least)) if expected else 0
-    facts |= {"sales": sold, "expected": asked}
-    yield Remark("cut periods" if expected else "cut periods left out", facts)
+    yield Remark(
+        "cut periods" if expected else "cut periods left out",
+        {
+            "periods": len(item.cut),
+            "used": len(expected),
+            "sales": sold,
+            "expected": asked,
+        },
+    )
 
 
 def remarks_of_stated(question: Question) -> Iterator[Remark]:
@@ -178,12 +184,14 @@ def remarks_of_past(question: Question, levels: Levels) -> Iterator[Remark]:
         yield question.level.remark
     yield from remarks_of_cut(question)
     if question.is_new:
-        facts: dict[str, Value] = {
-            "periods": len(item.known.counts),
-            "prior": learned.prior if learned else "",
-            **allowed_of(question, levels),
-        }
-        yield Remark("new", facts)
+        yield Remark(
+            "new",
+            {
+                "periods": len(item.known.counts),
+                "prior": learned.prior if learned else "",
+                **allowed_of(question, levels),
+            },
+        )
         return
     places, season = item.known_places, question.season
     checks = checks_of(
@@ -240,8 +248,8 @@ def remarks_of_damping(
         cost = question.whole_cost(before)
         gain = cost - question.whole_cost(best)
         share = gain / cost
-        facts = {"s": best.point, "S": best.level, "gain": gain, "share": share}
-        yield Remark(DAMPED, facts)
+        s, S = best.levels
+        yield Remark(DAMPED, {"s": s, "S": S, "gain": gain, "share": share})
 
 
 def plan_one(question: Question, program: str) -> Answer:

@@ -37,7 +37,7 @@ from ..demand.standing_out import Amounts, HighWeeks, standing_out
 from ..law import Law
 from ..read.dates import first_day
 from ..read.item import Item
-from ..remarks import Remark, Value
+from ..remarks import Remark
 
 
 class Stretch(NamedTuple):
@@ -154,17 +154,19 @@ class InSeason:
             yield Remark("Easter planned", {"most": max(calendar.easter)})
         if max(values) == min(values):
             return
-        facts: dict[str, Value] = {
-            "is_own": self.is_own,
-            "years": self.index.years,
-            "promoted": self.promoted,
-            "days": self.days,
-            "most": max(values),
-            "part_most": values.index(max(values)),
-            "least": min(values),
-            "part_least": values.index(min(values)),
-        }
-        yield Remark("season planned", facts)
+        yield Remark(
+            "season planned",
+            {
+                "is_own": self.is_own,
+                "years": self.index.years,
+                "promoted": self.promoted,
+                "days": self.days,
+                "most": max(values),
+                "part_most": values.index(max(values)),
+                "least": min(values),
+                "part_least": values.index(min(values)),
+            },
+        )
 
 
 @dataclass(frozen=True)

@@ -22,7 +22,7 @@ from ..read.observed import Day
 from ..read.opening import Table
 from ..read.quiet import QUIET, is_dead, quiet_periods
 from ..read.stock import NONE, QUANTITIES, TO_COME, Holdings, OnHand, read_holdings
-from ..remarks import Remark, Value
+from ..remarks import Remark
 from ..table import names_of
 from ..sentences import message
 from .answer import Answer
@@ -309,14 +309,17 @@ def minimums_of(
         known = minimums.setdefault(item.supplier, item.supplier_min)
         place = places.setdefault(item.supplier, item.name)
         if known != item.supplier_min:
-            facts: dict[str, Value] = {
-                "supplier": item.supplier,
-                "first": float(known),
-                "place": place,
-                "second": float(item.supplier_min),
-                "item": item.name,
-            }
-            raise Refused(message(Remark("two minimums", facts)))
+            two = Remark(
+                "two minimums",
+                {
+                    "supplier": item.supplier,
+                    "first": float(known),
+                    "place": place,
+                    "second": float(item.supplier_min),
+                    "item": item.name,
+                },
+            )
+            raise Refused(message(two))
     for name in stated:
         if name not in suppliers:
             close = get_close_matches(name, suppliers, 1)
