@@ -117,21 +117,6 @@ def common_changes(earlier: Planned, planned: Planned) -> Iterator[Remark]:
         yield Remark("other program")
 
 
-def pairs_of(earlier: PlannedFolder, now: PlannedFolder) -> Iterator[PlannedTwice]:
-    """Yields the items of both plans in order of their names, with all their periods."""
-    left = {
-        reject.item: reject.remark
-        for reject in now.read.rejects()
-        if reject.kind == "item"
-    }
-    for name, _ in itertools.groupby(
-        heapq.merge(earlier.read.names(), now.read.names())
-    ):
-        answer = now.store.answer(name)
-        fault = answer if isinstance(answer, Remark) else left.get(name)
-        yield PlannedTwice(decided(earlier, name), decided(now, name), fault)
-
-
 def decided(plan: PlannedFolder, name: str) -> tuple[Item, Answer] | None:
     """Returns an item of a plan with its answer; None without a policy."""
     item, answer = plan.read.item(name), plan.store.answer(name)
@@ -139,11 +124,19 @@ def decided(plan: PlannedFolder, name: str) -> tuple[Item, Answer] | None:
 
 
 def changes_since(earlier: PlannedFolder, now: PlannedFolder) -> Iterator[Change]:
-    """Yields what has changed since an earlier plan, by item. An item without a policy in either has not changed."""
-    common, (_, stop) = [
-        *common_changes(earlier.planned, now.planned)
-    ], earlier.read.fact("periods")
-    for pair in pairs_of(earlier, now):
+    """Yields what has changed since an earlier plan, by item in order of their names, with all their periods. An item
+    without a policy in either has not changed."""
+    common = [*common_changes(earlier.planned, now.planned)]
+    _, stop = earlier.read.fact("periods")
+    left = dict[str, Remark]()
+    for reject in now.read.rejects():
+        if reject.kind == "item":
+            left[reject.item] = reject.remark
+    names = heapq.merge(earlier.read.names(), now.read.names())
+    for name, _ in itertools.groupby(names):
+        answer = now.store.answer(name)
+        fault = answer if isinstance(answer, Remark) else left.get(name)
+        pair = PlannedTwice(decided(earlier, name), decided(now, name), fault)
         if pair.old or pair.new:
             yield change_of(pair, earlier.settings, stop, common)
 
