@@ -111,18 +111,6 @@ class Held:
     hulls: Hulls
 
 
-def whole_part(folder: Path, names: Names) -> CurvePart:
-    """Returns the part of some items, with their candidates. Raises Damaged."""
-    items = list[tuple[str, float, Candidates, Floats]]()
-    with Store(folder / CANDIDATES, OnCurve, is_known=True) as kept:
-        for name, _, answer in kept.answers(names.first, names.last):
-            if isinstance(answer, OnCurve):
-                items.append(
-                    (name, answer.price, answer.candidates, np.array(answer.now))
-                )
-    return CurvePart.of(items)
-
-
 class KeptPart(CurvePart):
     """The part of the items of some names. What is needed in each round is kept."""
 
@@ -134,7 +122,17 @@ class KeptPart(CurvePart):
 
     @functools.cached_property
     def _whole(self) -> CurvePart:
-        return whole_part(self._folder, self._part)
+        """Returns the part with its candidates. Raises Damaged."""
+        items, (first, last, _) = (
+            list[tuple[str, float, Candidates, Floats]](),
+            self._part,
+        )
+        with Store(self._folder / CANDIDATES, OnCurve, is_known=True) as kept:
+            for name, _, answer in kept.answers(first, last):
+                if isinstance(answer, OnCurve):
+                    now = np.array(answer.now)
+                    items.append((name, answer.price, answer.candidates, now))
+        return CurvePart.of(items)
 
     def _hulls(self, dearer: Dearer) -> Hulls:
         return self._held(dearer).hulls
