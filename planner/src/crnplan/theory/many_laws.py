@@ -23,6 +23,7 @@ from ..law import Law
 from ..policies import Policy
 from ..scenario import ScenarioData
 from .feasible import ALL
+from .figures import PolicyFigures
 from .lattice import NoTheory, Shape, finest, shape_of, theory_on
 from .long_run import NO_POLICY, Candidate, LongRun
 from .walk import PositionWalk, room_for
@@ -76,8 +77,8 @@ def run_of(
     widest: int,
     made: LongRun | None = None,
 ) -> LongRun | None:
-    """Returns the long run of a scenario on the finest lattice that is computed in time for gaps up to so many items;
-    None if its numbers are too far apart for that. It is the one `made` with other costs if that has this lattice.
+    """Returns the long run of a scenario on the finest lattice that is computed in time for gaps up to so many items,
+    and wide ones; None if its numbers are too far apart for that. It is the one `made` with other costs if that has this lattice.
     """
     periods = shape.lead + 1
     last = shape.lead if shape.leads > 1 else 0
@@ -96,7 +97,7 @@ def run_of(
             + DEVIATIONS * math.sqrt(periods * walk.one.variance)
             + net.high
         )
-        gap = -(-widest // step)
+        gap = -(-max(widest, math.ceil(2 * shape.order)) // step)
         return (
             room_for(above + gap + int(min(periods * net.high, likely)) + 3) / allowed
         )
@@ -107,21 +108,6 @@ def run_of(
     if step is None:
         return None
     return theory_on(scenario, shape, step, step == shape.base, ALL, made)
-
-
-def own_runs(
-    scenario: ScenarioData,
-    laws: Sequence[tuple[Law, Law]],
-    given: int,
-    made: Mapping[int, LongRun],
-) -> Iterator[LongRun]:
-    """Yields the long run of each law that has one on a lattice, for gaps up to the given one and to wide ones."""
-    for place, (own, shape) in enumerate(under_laws(scenario, laws)):
-        if shape:
-            widest = max(given, math.ceil(2 * shape.order))
-            theory = run_of(own, shape, widest, made.get(place))
-            if theory:
-                yield theory
 
 
 def figures_of_laws(
@@ -137,16 +123,17 @@ def figures_of_laws(
     """
     shape_of(scenario)
     widest = max(policy.S - policy.s for policy in policies)
-    runs = [*own_runs(scenario, laws, widest, made)]
-    if not runs:
+    figures = list[list[PolicyFigures]]()
+    for place, (own, shape) in enumerate(under_laws(scenario, laws)):
+        theory = shape and run_of(own, shape, widest, made.get(place))
+        if theory:
+            theory.figure(theory.pairs_of(policies))
+            figures.append([theory.figures(policy.s, policy.S) for policy in policies])
+    if not figures:
         raise NoTheory(
             "no law of demand has a long run: as much comes back as is asked for",
             "demand",
         )
-    figures = []
-    for theory in runs:
-        theory.figure(theory.pairs_of(policies))
-        figures.append([theory.figures(policy.s, policy.S) for policy in policies])
     table, scale = np.array(figures), float(scenario.scale)
     return LawFigures(table[..., 0] / scale, table[..., 1])
 
