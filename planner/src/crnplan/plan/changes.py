@@ -28,10 +28,7 @@ KINDS = SAME, MOVED, DAMPED, NEW, GONE = ("same", "moved", "damped", "new", "gon
 COLUMNS = (
     {
         name: name
-        for name in (
-            *("setup", "holding", "backlog", "fill", "no_shortage"),
-            *("review", "borrow"),
-        )
+        for name in "setup holding backlog fill no_shortage review borrow".split()
     }
     | {"class": "group"}
     | {bound.name: f"bounds.{bound.name}" for bound in dataclasses.fields(OrderBounds)}

@@ -231,8 +231,9 @@ def remarks_of(
     if question.together is None and group in settings.together:
         yield Remark(BY_ITSELF)
     if not choice.is_promised:
-        facts = {"of_periods": question.counts_periods}
-        yield Remark("no promise", {"confidence": settings.confidence, **facts})
+        of_periods = question.counts_periods
+        confidence = settings.confidence
+        yield Remark("no promise", {"confidence": confidence, "of_periods": of_periods})
     is_compared = question.levels not in (None, choice.levels)
     if sample and is_compared and sample.policies[-1].error is None:
         orders = min(estimate.orders for estimate in sample.policies)

@@ -75,16 +75,7 @@ def members_of(
     weigh."""
     counts = Counter[bool]()
     # What decides with which others an item is planned: its demand need not be read.
-    fields = (
-        "name",
-        "holding",
-        "backlog",
-        "no_shortage",
-        "price",
-        "category",
-        "has_goal",
-        "past",
-    )
+    fields = "name holding backlog no_shortage price category has_goal past".split()
     for cells in read.values(*fields):
         facts = dict(zip(fields, cells))
         item = Item(counts=(), leads=(), levels=None, setup=Fraction(0), **facts)

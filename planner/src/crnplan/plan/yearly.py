@@ -37,8 +37,8 @@ from .choice import CLOSE
 from .question import Question
 
 # The figures of an answer, and of its run, that are means over a year.
-COSTS = ("cost_today", "cost_chosen", "saving", "confidence_cost", "cost_promised")
-OF_RUN = ("cost_chosen", "cost_today", "saving", "error", "low", "high")
+COSTS = "cost_today cost_chosen saving confidence_cost cost_promised".split()
+OF_RUN = "cost_chosen cost_today saving error low high".split()
 
 
 def verdict_of(
