@@ -397,10 +397,7 @@ def exchange_curve(
         gather(own, planned, means) as gathered,
     ):
         drawn = draw(gathered, budget)
-        for name, lines in (
-            (CURVE, drawn.table.lines),
-            (POLICIES, drawn.policy_lines),
-        ):
-            own.write(name, lines)
+        own.write(CURVE, drawn.table.lines)
+        own.write(POLICIES, drawn.policy_lines)
         keep_curve(planned.store, drawn._drawn)
     return drawn
