@@ -306,7 +306,7 @@ def by_week(question: Question) -> list[float]:
     assert question.season
     factors = list[float]()
     for stretch in question.season.year:
-        season = question.season.at(stretch)
+        season = dataclasses.replace(question.season, stretch=stretch)
         factors += [season.factor] * (stretch.end - stretch.first)
     return factors
 

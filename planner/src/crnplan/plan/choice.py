@@ -6,13 +6,12 @@ import itertools
 import math
 from collections.abc import Iterable, Sequence
 from dataclasses import dataclass
-from typing import Any
 
 import numpy as np
 
 from ..chances import Floats, Whole
 from ..demand.borrowing import borrowed_laws
-from ..demand.posterior import allowed_laws, allowed_leads
+from ..demand.posterior import allowed_leads
 from ..errors import Refused
 from ..law import Law
 from ..remarks import Remark
@@ -20,7 +19,6 @@ from ..theory.every_gap import best_policies
 from ..theory.long_run import NO_POLICY, Candidate, LongRun
 from ..theory.many_laws import Promises
 from .answer import ALONE, BEFORE, CHOSEN, OVERRIDE, TODAY, UNDAMPED
-from .how import NONE
 from .question import Levels, NoPolicy, Question, Terms
 
 LAWS = 100  # that are drawn
@@ -67,17 +65,15 @@ def allowed_by(question: Question, laws: int = LAWS) -> list[tuple[Law, Law]]:
     """Returns so many laws of demand, and perhaps of lead times, that an item's history allows. They follow from its
     name and the seed."""
     item, seed = question.item, question.seed("allowed")
-    named: dict[str, Any] = {"times": laws, "box": item.box, "seed": seed}
-    if question.borrow == NONE:
-        drawn = allowed_laws(question.counts, **named)
-    else:
-        drawn = borrowed_laws(
-            question.prior,
-            question.counts,
-            question.group,
-            is_new=question.is_new,
-            **named,
-        )
+    drawn = borrowed_laws(
+        question.prior,
+        question.counts,
+        question.group,
+        times=laws,
+        box=item.box,
+        seed=seed,
+        is_new=question.is_new,
+    )
     leads: Iterable[Law] = itertools.repeat(question.lead.table)
     if len(item.leads) > 1:
         leads = allowed_leads(item.leads, times=laws, seed=seed)

@@ -341,7 +341,7 @@ class Question(Terms):
     def during(self, stretch: Stretch, before: Levels | None = None) -> Question:
         """Returns the question of another part of the year, which perhaps has the s and S of an earlier plan."""
         assert self.season is not None
-        asked = self.at(self.season.at(stretch))
+        asked = self.at(dataclasses.replace(self.season, stretch=stretch))
         return dataclasses.replace(asked, before=in_boxes(before, self.item.box))
 
     def moved(self, level: AtLevel | None, season: InSeason | None) -> Question:
@@ -358,7 +358,7 @@ class Question(Terms):
     def alone(self) -> Question:
         """Returns the question of an item that learns its law from no other."""
         law = fit_demand(self.counts, box=self.item.box)
-        asked = dataclasses.replace(self, borrow=NONE, demand=law)
+        asked = dataclasses.replace(self, borrow=NONE, prior=Prior(NONE), demand=law)
         return asked.moved(self.level, self.season)
 
 
@@ -434,6 +434,8 @@ def question_of(
         borrow = NONE
     if item.past == NEW and (why := why_unknown(item, prior, borrow)):
         raise NoPolicy(Remark(why, {"periods": len(item.known.counts)}))
+    if borrow == NONE:
+        prior = Prior(NONE)
     known, box, expected = item.known, item.box, expected_of(item, settings.fit)
     counts = known.counts + expected
     rates, scale, error = rates_of(item)

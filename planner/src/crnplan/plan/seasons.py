@@ -110,10 +110,6 @@ class InSeason:
         """Returns a law of demand without the season as it is in the stretch."""
         return at_rate(law, self.factor)
 
-    def at(self, stretch: Stretch) -> InSeason:
-        """Returns the same for another stretch."""
-        return replace(self, stretch=stretch)
-
     @property
     def by_period(self) -> Floats:
         """Returns the rate by period of the record, in units of its mean."""
