@@ -113,12 +113,7 @@ class Items:
         least = costs + PRICES * (
             unmet - (1 - point.fill) * self.asked * self.units[UNMET]
         )
-        used = np.array(
-            [
-                dearer.orders * point.orders + dearer.stock * point.value
-                for dearer in asked
-            ]
-        )
+        used = np.array(asked) @ [point.orders, point.value]
         return float((least.max(axis=1) - used).max())
 
 
