@@ -13,9 +13,7 @@ from .table import Result
 from .toml.documents import shown
 
 Levels = tuple[int, int]  # s and S of a policy
-Policies = (
-    Iterable[object] | Mapping[str, tuple[int, int]] | Result
-)  # what stands for some
+Policies = Iterable[object] | Mapping[str, Levels] | Result  # what stands for some
 
 
 @dataclass(frozen=True)
@@ -80,7 +78,7 @@ class Policy:
         return policy if policy.name else cls(own, policy.s, policy.S)
 
 
-def levels_of(pair: Any, name: str) -> tuple[int, int]:
+def levels_of(pair: Any, name: str) -> Levels:
     """Returns the levels of a pair (s, S). Raises Refused if it is none; `name` says what it is."""
     try:
         low, high = pair

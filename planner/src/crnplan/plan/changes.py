@@ -123,7 +123,7 @@ def plain(fact: Fraction | Value) -> Value:
     return float(fact) if isinstance(fact, Fraction) else fact
 
 
-def masters_of(old: Item, new: Item, earlier: tuple[int, int]) -> Iterator[Remark]:
+def masters_of(old: Item, new: Item, earlier: Levels) -> Iterator[Remark]:
     """Yields what has changed in the master of an item: costs, bounds and the like, lead times, and today's policy."""
     facts: dict[str, Value] = {}
     for name, field in COLUMNS.items():

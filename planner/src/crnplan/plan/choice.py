@@ -17,7 +17,7 @@ from ..law import Law
 from ..remarks import Remark
 from ..theory.every_gap import best_policies
 from ..theory.long_run import NO_POLICY, Candidate, LongRun
-from ..theory.many_laws import Promises
+from ..theory.many_laws import LawPair, Promises
 from .answer import ALONE, BEFORE, CHOSEN, OVERRIDE, TODAY, UNDAMPED
 from .question import Levels, NoPolicy, Question, Terms
 
@@ -61,7 +61,7 @@ class Choice:
         )
 
 
-def allowed_by(question: Question, laws: int = LAWS) -> list[tuple[Law, Law]]:
+def allowed_by(question: Question, laws: int = LAWS) -> list[LawPair]:
     """Returns so many laws of demand, and perhaps of lead times, that an item's history allows. They follow from its
     name and the seed."""
     item, seed = question.item, question.seed("allowed")

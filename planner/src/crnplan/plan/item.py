@@ -17,12 +17,11 @@ from ..demand.checks import largest_periods, largest_places
 from ..demand.fitted import FittedLaw
 from ..errors import Refused
 from ..formats import POLICIES
-from ..law import Law
 from ..policies import Policy
 from ..runs import Report, Scenario
 from ..theory.lattice import NoTheory
 from ..theory.long_run import Candidate, LongRun
-from ..theory.many_laws import CONFIDENCE, Promises, figures_of_laws
+from ..theory.many_laws import CONFIDENCE, LawPair, Promises, figures_of_laws
 from ..theory.suggestions import FILLS, SuggestedPolicies, add_fills, chosen_policies
 from ..sentences import sentence
 from .answer import ALONE, CHOSEN, THEORY, TODAY, Answer, Figures
@@ -117,7 +116,7 @@ class Depth:
         return self.question.alone().as_sold
 
     @cached_property
-    def allowed(self) -> list[tuple[Law, Law]]:
+    def allowed(self) -> list[LawPair]:
         return allowed_by(self.question, self.laws)
 
     @cached_property

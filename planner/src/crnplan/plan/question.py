@@ -9,19 +9,17 @@ from functools import cached_property
 
 from ..demand.cut_sales import expected_demands
 from ..demand.fitted import Borrowed, FittedLaw, seen_law
-from ..demand.borrowing import fit_demand
+from ..demand.borrowing import fit_demand, law_of
 from ..demand.fitting import fit_lead, stated_law
-from ..demand.borrowing import law_of
 from ..demand.learning import Prior
 from ..errors import CrnplanError, Refused
 from ..formats import MOST_DEMAND, MOST_ITEMS, MOST_LEAD, limits
 from ..law import Law
-from ..money import rounded_costs
+from ..money import Costs, rounded_costs
 from ..read.bounds import OrderBounds
 from ..read.item import NEW, Item
 from ..remarks import Remark, Value
 from ..policies import Levels as Levels
-from ..money import Costs
 from ..runs import Scenario
 from ..theory.lattice import lattice_of, shape_of, theory_on
 from ..theory.long_run import LongRun

@@ -17,7 +17,7 @@ from fractions import Fraction
 from functools import cached_property
 
 from ..law import Law
-from ..policies import Lot
+from ..policies import Levels, Lot
 from ..read.columns import DAYS
 from ..read.dates import period_of
 from ..read.item import PHASE_OUT, Item
@@ -56,12 +56,12 @@ class Standing:
         return is_phased_out or bool(self.answer or self.set_levels)
 
     @property
-    def set_levels(self) -> tuple[int, int] | None:
+    def set_levels(self) -> Levels | None:
         """Returns s and S that its planner has set; None if there are none."""
         return self.item.override.levels if self.item.override else None
 
     @property
-    def levels(self) -> tuple[int, int]:
+    def levels(self) -> Levels:
         """Returns s and S by which the item is ordered: those that its planner has set, else those of the plan, by a season
         those of the month of the day."""
         if self.set_levels:

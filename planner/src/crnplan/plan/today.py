@@ -26,9 +26,8 @@ from ..remarks import Remark
 from ..table import names_of
 from ..sentences import message
 from .answer import Answer
-from .catalogue import PlannedFolder
+from .catalogue import Decided, PlannedFolder
 from .standing import Worth, Standing
-from .catalogue import Decided
 
 MOST_NAMED = 8  # items of a message
 OLD_DAYS = 56  # after its record, from which on the age of a plan is said

@@ -37,6 +37,7 @@ OF_PERIOD = 42
 OF_PAIR = 5
 LEAST_ROOM = 512
 
+LawPair = tuple[Law, Law]  # of demand and of lead times
 CONFIDENCE = 0.8  # by default, of the laws that a history allows
 FACTORS = tuple(1.1**power for power in range(-5, 7))  # of the gap without a promise
 FEWER = (0.0, 0.125, 0.25, 0.5)  # further factors if S has a bound
@@ -59,7 +60,7 @@ class LawFigures:
 
 
 def under_laws(
-    scenario: ScenarioData, laws: Iterable[tuple[Law, Law]]
+    scenario: ScenarioData, laws: Iterable[LawPair]
 ) -> Iterator[tuple[ScenarioData, Shape | None]]:
     """Yields the scenario under each law of demand and of lead times, with its shape: None if there is nothing to order
     in the long run."""
@@ -112,7 +113,7 @@ def run_of(
 
 def figures_of_laws(
     scenario: ScenarioData,
-    laws: Sequence[tuple[Law, Law]],
+    laws: Sequence[LawPair],
     policies: Sequence[Policy],
     made: Mapping[int, LongRun] = {},
 ) -> LawFigures:
@@ -150,7 +151,7 @@ class Promises:
         scenario: ScenarioData,
         theory: LongRun,
         gap: int,
-        laws: Iterable[tuple[Law, Law]],
+        laws: Iterable[LawPair],
         shares: Sequence[float],
         confidence: float = CONFIDENCE,
     ) -> None:
