@@ -1,11 +1,11 @@
 """Plans a catalogue after an earlier plan: takes over what has not changed, and keeps what has."""
 from __future__ import annotations
 
-import dataclasses
 import heapq
 import itertools
 import json
 from collections.abc import Iterable, Iterator
+from dataclasses import asdict, replace
 from pathlib import Path
 from typing import TYPE_CHECKING
 
@@ -71,7 +71,7 @@ def asked_after(
     if before and before.undamped:
         is_same &= planned.settings.least_gain == earlier.settings.least_gain
     if is_same and before:  # The policy before is its own.
-        answer = dataclasses.replace(before, before=before.chosen)
+        answer = replace(before, before=before.chosen)
     if is_same:
         return Known(answer)
     return item, levels_in(before, read.fact("every"), item) if before else None
@@ -89,7 +89,7 @@ def levels_in(before: Answer, every: str, item: Item) -> tuple[Levels, ...]:
 
 def stated(settings: Settings) -> dict[str, Value]:
     """Returns what is stated of how items are planned, but for the least gain: by class if it is, under both names."""
-    tree, shares = dataclasses.asdict(settings), settings.shares
+    tree, shares = asdict(settings), settings.shares
     for name in ("least_gain", "together", "fill", "service", *LEARNED):
         del tree[name]
     return tree | {f"together {name}".strip(): shares[name] for name in shares}

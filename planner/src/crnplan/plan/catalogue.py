@@ -2,11 +2,10 @@
 from __future__ import annotations
 
 import contextlib
-import dataclasses
 import json
 import shutil
 from collections.abc import Generator, Iterable, Iterator, Sequence
-from dataclasses import dataclass
+from dataclasses import asdict, dataclass, replace
 from difflib import get_close_matches
 from pathlib import Path
 
@@ -85,7 +84,7 @@ class Planned:
     def facts(self) -> dict[str, str]:
         """Returns what is kept of it beside the answers."""
         tree = {
-            "settings": dataclasses.asdict(self.settings),
+            "settings": asdict(self.settings),
             "borrow": self.prior.borrow,
             "common": self.base,
             "earlier": self.earlier,
@@ -388,12 +387,12 @@ def planning(
             check_records(earlier.path, earlier.read, read)
             take_prior(answers, earlier, again)
         seasons = seasons_of(answers, read, settings, again)
-        settings = dataclasses.replace(settings, seasons=seasons)
+        settings = replace(settings, seasons=seasons)
         following = following_of(answers, read, settings, again)
-        settings = dataclasses.replace(settings, following=following)
+        settings = replace(settings, following=following)
         learned = learned_of(answers, read, settings, again)
         prior, every = learned.prior, read.fact("every")
-        settings = dataclasses.replace(settings, borrow=learned.usual, every=every)
+        settings = replace(settings, borrow=learned.usual, every=every)
         if settings.correct:
             words = folder, answers, read, settings, prior, means, again
             found = corrections_of(*words, wants_aims(read, settings))
@@ -402,7 +401,7 @@ def planning(
         if settings.shares:
             prices = prices_of(folder, answers, read, settings, prior, means, again)
             if prices.groups:
-                settings = dataclasses.replace(settings, prices=prices)
+                settings = replace(settings, prices=prices)
         base = settings.common(means.program_digest(path), prior)
         planned = Planned(settings, prior, base, earlier.digest if earlier else "")
         work = Work(

@@ -1,11 +1,10 @@
 """Says what has changed since an earlier plan: the policy of each item, why, and how the earlier one did since."""
 from __future__ import annotations
 
-import dataclasses
 import statistics
 from collections import Counter, defaultdict
 from collections.abc import Iterable, Iterator, Sequence
-from dataclasses import dataclass
+from dataclasses import dataclass, fields, replace
 from fractions import Fraction
 from operator import attrgetter
 from typing import NamedTuple
@@ -31,7 +30,7 @@ COLUMNS = (
         for name in "setup holding backlog fill no_shortage review borrow".split()
     }
     | {"class": "group"}
-    | {bound.name: f"bounds.{bound.name}" for bound in dataclasses.fields(OrderBounds)}
+    | {bound.name: f"bounds.{bound.name}" for bound in fields(OrderBounds)}
 )
 ItemAnswer = tuple[Item, Answer]
 
@@ -177,7 +176,7 @@ def since_of(old: ItemAnswer, now: Item, settings: Settings, stop: int) -> Since
     if not demands:
         return None
     happened_to = {"counts": now.counts, "returns": now.returns}
-    past = dataclasses.replace(item, **happened_to, unknown=(), cut=(), promoted=())
+    past = replace(item, **happened_to, unknown=(), cut=(), promoted=())
     lead = fit_lead(item.leads)
     lot, seed = settings.bounds_of(item).lot, settings.seed_of("since", item.name)
     happened = Happened(past, lot, lead, seed, record)
@@ -204,19 +203,19 @@ def change_of(
     change = Change(item.name, GONE)
     if old:
         earlier, gone = old[1], left or Remark("not in the files")
-        change = dataclasses.replace(change, earlier=earlier.chosen, reasons=(gone,))
+        change = replace(change, earlier=earlier.chosen, reasons=(gone,))
     if new is None:
         return change
     answer, kind, period = new[1], MOVED, item.first + len(item.counts)
-    change = dataclasses.replace(change, after=answer.chosen, law=answer.law)
+    change = replace(change, after=answer.chosen, law=answer.law)
     if old is None:
         reason = Remark("new item", {"periods": len(item.counts)})
-        return dataclasses.replace(change, kind=NEW, reasons=(reason,))
+        return replace(change, kind=NEW, reasons=(reason,))
     if answer.undamped:
         kind = DAMPED
     elif answer.chosen.levels == earlier.chosen_in(period).levels:
         kind = SAME
-    return dataclasses.replace(
+    return replace(
         change,
         kind=kind,
         before=answer.before,

@@ -6,9 +6,9 @@ chapter 10).
 """
 from __future__ import annotations
 
-import dataclasses
 import math
 from collections.abc import Mapping
+from dataclasses import replace
 
 import numpy as np
 
@@ -120,9 +120,7 @@ def check_run(
     if not sample.disagreement(figures, most, {}):
         return
     key = key_words(f"{question.settings.seed}\nagain\n{question.item.name}")
-    larger = dataclasses.replace(
-        scenario, key=tuple(key), replications=MOST_REPLICATIONS
-    )
+    larger = replace(scenario, key=tuple(key), replications=MOST_REPLICATIONS)
     again = RunSample(question, larger.run(program=program))
     rare = {
         row.policy: rare_cost(question, (row.s, row.S), larger) for row in report.rows
@@ -137,9 +135,9 @@ def check_run(
 
 def as_run(question: Question, levels: Levels) -> tuple[Question, dict[str, Figures]]:
     """Returns a question whose orders go up to S exactly, as those of crnsim do, and figures of the policies of a run."""
-    item = dataclasses.replace(question.item, bounds=OrderBounds())
-    settings = dataclasses.replace(question.settings, order_min=None)
-    exact = dataclasses.replace(question, item=item, settings=settings)
+    item = replace(question.item, bounds=OrderBounds())
+    settings = replace(question.settings, order_min=None)
+    exact = replace(question, item=item, settings=settings)
     asked = {TODAY: question.levels, CHOSEN: levels}
     return exact, {name: exact.figures(it) for name, it in asked.items() if it}
 
@@ -184,7 +182,7 @@ def run_of(question: Question, report: Report, sample: RunSample) -> CheckRun:
     error = 0.0 if len(rows) == 1 else chosen.error
     quantile = t_quantile(1 - question.settings.level, scenario.replications - 1)
     low, high = ends_of(saving, error, quantile)
-    return dataclasses.replace(
+    return replace(
         run,
         total_today=rows[0].total,
         difference=rows[-1].diff_mean,

@@ -1,11 +1,10 @@
 """Chooses the policy of an item by theory, beside today's and that of an earlier plan."""
 from __future__ import annotations
 
-import dataclasses
 import itertools
 import math
 from collections.abc import Iterable, Sequence
-from dataclasses import dataclass
+from dataclasses import dataclass, replace
 
 import numpy as np
 
@@ -52,7 +51,7 @@ class Choice:
 
     def beside(self, today: Levels, more_by_run: float | None = None) -> Choice:
         """Returns that today's policy stays, since this one costs more and serves less."""
-        return dataclasses.replace(
+        return replace(
             self,
             levels=today,
             undamped=None,
@@ -190,7 +189,7 @@ def damped(choice: Choice, question: Question, promises: Promises | None) -> Cho
     cost = question.whole_cost(earlier)
     if cost - question.whole_cost(new) >= least * cost:
         return choice
-    return dataclasses.replace(choice, levels=before, undamped=choice.levels)
+    return replace(choice, levels=before, undamped=choice.levels)
 
 
 def levels_of(question: Question, choice: Choice) -> dict[str, Levels]:

@@ -8,11 +8,10 @@ ways.
 """
 from __future__ import annotations
 
-import dataclasses
 import itertools
 import math
 from collections.abc import Callable, Iterator, Sequence
-from dataclasses import dataclass
+from dataclasses import dataclass, replace
 from typing import Any, NamedTuple
 
 import numpy as np
@@ -207,7 +206,7 @@ def ways_of(settings: Settings) -> Settings:
 def cost_ways_of(settings: Settings, aims: Aims | None) -> Settings:
     """Returns those of some settings by which the costs of items are tried: their policies are those of the plan, within
     its bounds."""
-    return dataclasses.replace(
+    return replace(
         ways_of(settings),
         order_min=settings.order_min,
         max_coverage=settings.max_coverage,
@@ -245,7 +244,7 @@ class Corrections:
                 f"{said} can be tried on their past, and a correction needs {LEAST_ITEMS}",
                 f"plan without {argument('correct')}",
             )
-        on = dataclasses.replace(settings, aims=self.aims, overruns=self.overruns)
+        on = replace(settings, aims=self.aims, overruns=self.overruns)
         return on, remarks
 
 

@@ -1,10 +1,9 @@
 """How the items of a catalogue are planned: by which laws and seasons, for what, within which bounds."""
 from __future__ import annotations
 
-import dataclasses
 import json
 from collections.abc import Mapping, Sequence
-from dataclasses import dataclass
+from dataclasses import asdict, dataclass, replace
 from fractions import Fraction
 from typing import Any
 
@@ -255,7 +254,7 @@ class Settings(Vocabulary):
         :meta private:
         """
         learned = sha256(prior.text)
-        settings = dataclasses.asdict(self)
+        settings = asdict(self)
         del settings["least_gain"]
         return json.dumps([VERSION, program, learned, settings], default=float)
 
@@ -274,7 +273,7 @@ class Settings(Vocabulary):
             coverage = Fraction(self.max_coverage)
         if coverage is None:
             usual = MOST_COVERAGE.get(self.every or "")
-        return dataclasses.replace(
+        return replace(
             own,
             order_min=own.order_min or self.order_min,
             s_min=s_min,
@@ -306,4 +305,4 @@ def flat_of(item: Item, settings: Settings) -> tuple[Item, Settings]:
     the level of the last periods says nothing of it, so the law of the rest is as it was.
     """
     item, _ = without_season(item, settings)
-    return item.known, dataclasses.replace(settings, seasons=None, following=None)
+    return item.known, replace(settings, seasons=None, following=None)

@@ -1,10 +1,10 @@
 """Draws the histories of a catalogue by which its items learn from one another, and keeps what was learned."""
 from __future__ import annotations
 
-import dataclasses
 import json
 from collections import Counter, defaultdict
 from collections.abc import Callable, Iterable, Iterator
+from dataclasses import asdict
 from typing import Any, NamedTuple, TypeVar, cast
 
 import numpy as np
@@ -188,7 +188,7 @@ def learned_once(
     if kept.get("basis") == basis and not again:
         return cast(Thing, value_of(kind, kept[name]))
     thing = learned()
-    tree = dataclasses.asdict(cast(Any, thing))
+    tree = asdict(cast(Any, thing))
     fact = {"basis": basis, name: tree}
     answers.keep_facts({name: json.dumps(fact)})
     return thing
@@ -197,7 +197,7 @@ def learned_once(
 def basis_of(settings: Settings) -> str:
     """Returns without which seasons items learn, as a text."""
     seasons = settings.seasons
-    return json.dumps(seasons and dataclasses.asdict(seasons))
+    return json.dumps(seasons and asdict(seasons))
 
 
 def kept_prior(

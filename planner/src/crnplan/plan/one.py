@@ -6,9 +6,9 @@ an item does not depend on what else is planned, nor on how many processes work 
 """
 from __future__ import annotations
 
-import dataclasses
 import math
 from collections.abc import Callable, Iterable, Iterator, Mapping, Sequence
+from dataclasses import replace
 from pathlib import Path
 from typing import Any, TypeVar
 
@@ -297,7 +297,7 @@ def figures_by_policy(question: Question, choice: Choice) -> dict[str, Figures]:
     override = question.item.override
     if override and override.levels:
         s, S = override.levels
-        figures[OVERRIDE] = dataclasses.replace(figures[OVERRIDE], point=s, level=S)
+        figures[OVERRIDE] = replace(figures[OVERRIDE], point=s, level=S)
     return figures
 
 

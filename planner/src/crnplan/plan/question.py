@@ -1,9 +1,8 @@
 """What is asked for an item: its facts, its laws, and how it is to be planned."""
 from __future__ import annotations
 
-import dataclasses
 from collections.abc import Mapping, Sequence
-from dataclasses import dataclass, field
+from dataclasses import dataclass, field, replace
 from fractions import Fraction
 from functools import cached_property
 
@@ -191,7 +190,7 @@ class Terms:
             f"{settings.seed}\n{self.item.name}",
         )
         lot = self.bounds.lot.counted_in(self.item.box)
-        made = dataclasses.replace(made, review=self.item.review, lot=lot)
+        made = replace(made, review=self.item.review, lot=lot)
         fits = (
             self.demand.values[-1] <= MOST_DEMAND
             and self.lead.values[-1] <= MOST_LEAD
@@ -207,9 +206,9 @@ class Terms:
         """
         scenario = self._scenario
         if backlog is not None:
-            costs = dataclasses.replace(scenario.costs, backlog=backlog)
-            scenario = dataclasses.replace(scenario, costs=costs)
-        return dataclasses.replace(scenario, initial=initial)
+            costs = replace(scenario.costs, backlog=backlog)
+            scenario = replace(scenario, costs=costs)
+        return replace(scenario, initial=initial)
 
     def for_theory(self) -> Scenario:
         """Returns the scenario with a backlog rate by which theory has policies that meet a wanted share: with hardly any
@@ -307,7 +306,7 @@ class Question(Terms):
     @property
     def flat(self) -> Question:
         """Returns the question as if there were no season, by the counts and the law without it."""
-        return dataclasses.replace(self, demand=self.all_year, season=None)
+        return replace(self, demand=self.all_year, season=None)
 
     @property
     def of_record(self) -> FittedLaw:
@@ -323,7 +322,7 @@ class Question(Terms):
     def at(self, season: InSeason) -> Question:
         """Returns the question of a part of the year, by the season as it is in that."""
         demand = season.law.like(season.of(season.law))
-        return dataclasses.replace(self, demand=demand, season=season)
+        return replace(self, demand=demand, season=season)
 
     @property
     def as_sold(self) -> FittedLaw:
@@ -339,24 +338,24 @@ class Question(Terms):
     def during(self, stretch: Stretch, before: Levels | None = None) -> Question:
         """Returns the question of another part of the year, which perhaps has the s and S of an earlier plan."""
         assert self.season is not None
-        asked = self.at(dataclasses.replace(self.season, stretch=stretch))
-        return dataclasses.replace(asked, before=in_boxes(before, self.item.box))
+        asked = self.at(replace(self.season, stretch=stretch))
+        return replace(asked, before=in_boxes(before, self.item.box))
 
     def moved(self, level: AtLevel | None, season: InSeason | None) -> Question:
         """Returns a question whose law of demand is that of the record with the level and the season of another one, if
         that has any."""
         question, law = self, self.demand
         if level:
-            level, law = dataclasses.replace(level, law=law), law.like(level.of(law))
-            question = dataclasses.replace(self, demand=law, level=level)
+            level, law = replace(level, law=law), law.like(level.of(law))
+            question = replace(self, demand=law, level=level)
         if season:
-            question = question.at(dataclasses.replace(season, law=law))
+            question = question.at(replace(season, law=law))
         return question
 
     def alone(self) -> Question:
         """Returns the question of an item that learns its law from no other."""
         law = fit_demand(self.counts, box=self.item.box)
-        asked = dataclasses.replace(self, borrow=NONE, prior=Prior(NONE), demand=law)
+        asked = replace(self, borrow=NONE, prior=Prior(NONE), demand=law)
         return asked.moved(self.level, self.season)
 
 

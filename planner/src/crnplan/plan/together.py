@@ -7,12 +7,12 @@ from the others, met the wanted share together.
 """
 from __future__ import annotations
 
-import dataclasses
 import json
 import math
 import statistics
 from collections import Counter
 from collections.abc import Callable, Iterator, Mapping
+from dataclasses import replace
 from fractions import Fraction
 from typing import Any, NamedTuple
 
@@ -284,7 +284,7 @@ def settled(settings: Settings) -> Settings:
         "least_gain": None,
         "overruns": None,
     }
-    return dataclasses.replace(settings, **usual)
+    return replace(settings, **usual)
 
 
 def prices_of(

@@ -2,8 +2,8 @@
 rounded and unproved."""
 from __future__ import annotations
 
-import dataclasses
 from collections.abc import Sequence
+from dataclasses import replace
 from fractions import Fraction
 
 import numpy as np
@@ -32,13 +32,13 @@ def what_if(
     asked = terms
     if share is not None:
         name = "no_shortage" if terms.counts_periods else "fill"
-        item = dataclasses.replace(terms.item, **{name: Fraction(share)})
-        settings = dataclasses.replace(
+        item = replace(terms.item, **{name: Fraction(share)})
+        settings = replace(
             terms.settings, together={}, alike=True, prices=None, at_least=None
         )
-        asked = dataclasses.replace(terms, item=item, settings=settings)
+        asked = replace(terms, item=item, settings=settings)
     if lead is not None:
-        asked = dataclasses.replace(asked, lead=Law((lead,), (1,)))
+        asked = replace(asked, lead=Law((lead,), (1,)))
     best = best_of(asked)[0].levels
     return [*map(asked.figures, (*policies, best))]
 

@@ -4,8 +4,8 @@ That is an approximation: what a part leaves on hand, or on order, the next one 
 """
 from __future__ import annotations
 
-import dataclasses
 from collections.abc import Iterable, Sequence
+from dataclasses import replace
 from typing import Any
 
 import numpy as np
@@ -78,7 +78,7 @@ def mean_of(figures: Sequence[Figures], periods: Floats, asked: Floats) -> Figur
         weights = asked if part == "fill" else periods
         values = [getattr(one, part) for one in figures]
         means[part] = float(weights @ values / weights.sum())
-    return dataclasses.replace(figures[0], **means)
+    return replace(figures[0], **means)
 
 
 class Year:
@@ -120,7 +120,7 @@ class Year:
         runs = [answer.run for answer in self.answers if answer.run]
         if not runs:
             return None
-        return dataclasses.replace(runs[0], **self.means(runs, OF_RUN))
+        return replace(runs[0], **self.means(runs, OF_RUN))
 
     def verdict(self, answer: Answer) -> str:
         """Returns the verdict on a year with such means."""
@@ -150,13 +150,13 @@ def over_year(parts: Sequence[tuple[Question, Answer]]) -> Answer:
     if correction:
         own = [answer.correction or correction for answer in answers]
         stock = year.means(own, ["plain_stock"])
-        changed["correction"] = dataclasses.replace(correction, **stock)
-    answer = dataclasses.replace(
+        changed["correction"] = replace(correction, **stock)
+    answer = replace(
         first,
         source=RUN if any(one.source == RUN for one in answers) else THEORY,
-        laws=dataclasses.replace(first.laws, demand=year.question.all_year.table),
+        laws=replace(first.laws, demand=year.question.all_year.table),
         run=year.run,
         calendar=tuple(year.rows),
         **changed,
     )
-    return dataclasses.replace(answer, verdict=year.verdict(answer))
+    return replace(answer, verdict=year.verdict(answer))

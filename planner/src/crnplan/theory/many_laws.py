@@ -11,10 +11,9 @@ around that of the policy without a promise. For these, only laws near that plac
 from __future__ import annotations
 
 import contextlib
-import dataclasses
 import math
 from collections.abc import Iterable, Iterator, Mapping, Sequence
-from dataclasses import dataclass
+from dataclasses import dataclass, replace
 
 import numpy as np
 
@@ -65,7 +64,7 @@ def under_laws(
     """Yields the scenario under each law of demand and of lead times, with its shape: None if there is nothing to order
     in the long run."""
     for demand, lead in laws:
-        own = dataclasses.replace(scenario, demand=demand, lead=lead)
+        own = replace(scenario, demand=demand, lead=lead)
         shape = None
         with contextlib.suppress(NoTheory):
             shape = shape_of(own)

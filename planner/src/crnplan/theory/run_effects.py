@@ -18,8 +18,8 @@ difference of their final positions. `end_effects` replaces these by means over 
 """
 from __future__ import annotations
 
-import dataclasses
 from collections.abc import Sequence
+from dataclasses import replace
 from typing import TYPE_CHECKING, NamedTuple
 
 import numpy as np
@@ -59,16 +59,14 @@ def theory_of(scenario: ScenarioData, most_gaps: int = MOST_GAPS) -> LongRun:
     Its orders go up to S exactly, as those of a run do. Raises NoTheory if there is no long run, or if the numbers of the
     scenario are too far apart.
     """
-    scenario = dataclasses.replace(scenario, lot=Lot())
+    scenario = replace(scenario, lot=Lot())
     costs = scenario.costs
     gaps = [policy.S - policy.s for policy in scenario.policies]
-    positive = dataclasses.replace(
+    positive = replace(
         costs, holding=max(1, costs.holding), backlog=max(1, costs.backlog)
     )
     # A search needs wider tables, and more passes over late orders: here the gaps are known.
-    shape = dataclasses.replace(
-        shape_of(dataclasses.replace(scenario, costs=positive)), order=max(gaps) / 3
-    )
+    shape = replace(shape_of(replace(scenario, costs=positive)), order=max(gaps) / 3)
     work = sum(shape.late_work(shape.base, gap / shape.base) for gap in gaps)
     if shape.leads > 1 and shape.has_room(shape.base) and work <= MOST_WORK:
         return theory_on(scenario, shape, shape.base, True)
