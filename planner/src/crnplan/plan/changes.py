@@ -198,31 +198,31 @@ def change_of(
     """Returns what has changed of an item. `settings` are those of the earlier plan, whose record ends before period
     `stop`, and `common` is what has changed for all items."""
     old, new, left = pair
-    item, _ = new or old or (None, None)
-    assert item is not None
-    change = Change(item.name, GONE)
-    if old:
-        earlier, gone = old[1], left or Remark("not in the files")
-        change = replace(change, earlier=earlier.chosen, reasons=(gone,))
     if new is None:
-        return change
-    answer, kind, period = new[1], MOVED, item.first + len(item.counts)
-    change = replace(change, after=answer.chosen, law=answer.law)
+        assert old is not None
+        (item, earlier), gone = old, left or Remark("not in the files")
+        return Change(item.name, GONE, earlier.chosen, reasons=(gone,))
+    item, answer = new
     if old is None:
-        reason = Remark("new item", {"periods": len(item.counts)})
-        return replace(change, kind=NEW, reasons=(reason,))
+        reasons = (Remark("new item", {"periods": len(item.counts)}),)
+        after, law = answer.chosen, answer.law
+        return Change(item.name, NEW, after=after, law=law, reasons=reasons)
+    earlier, kind, period = old[1], MOVED, item.first + len(item.counts)
     if answer.undamped:
         kind = DAMPED
     elif answer.chosen.levels == earlier.chosen_in(period).levels:
         kind = SAME
-    return replace(
-        change,
-        kind=kind,
-        before=answer.before,
-        undamped=answer.undamped,
-        reasons=tuple(reasons_of(old, new, stop, common)),
-        since=since_of(old, item, settings, stop),
-        price=answer.share.price if answer.share else 0.0,
+    return Change(
+        item.name,
+        kind,
+        earlier.chosen,
+        answer.before,
+        answer.chosen,
+        answer.undamped,
+        answer.law,
+        tuple(reasons_of(old, new, stop, common)),
+        since_of(old, item, settings, stop),
+        answer.share.price if answer.share else 0.0,
     )
 
 
