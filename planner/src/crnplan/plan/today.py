@@ -345,7 +345,7 @@ class _Sorted:
         self.holdings, self.day, self.every = holdings, day, folder.every
         self.settings = folder.settings
         self.known = known
-        self.items, self.standings = list[Item](), list[Standing]()
+        self.standings = list[Standing]()
         self.unknown = list[tuple[Item, Remark]]()
         self.dead, self.ended = list[Lying](), list[Lying]()
         self.unstocked = list[str]()  # of which a planner orders a quantity
@@ -360,7 +360,6 @@ class _Sorted:
         return None if item.stock is None else OnHand.of(item.stock)
 
     def add(self, item: Item, answer: Answer | Remark) -> None:
-        self.items.append(item)
         hand, is_set = self.hand(item), bool(item.override and item.override.levels)
         is_ended = item.past in ENDED and not is_set
         quantity = self.holdings.quantities.get(item.name)
@@ -431,8 +430,10 @@ class Days:
         """
         holdings = self.holdings(tables)
         found = _Sorted(holdings, day, self.folder, self.known)
+        items = list[Item]()
         for item, answer in self.decided:
             found.add(item, answer)
+            items.append(item)
         if holdings.on_hand is None and not found.has_stock:
             raise Refused(
                 f"{self.folder.path}: no item has a stock in its masters",
@@ -449,9 +450,9 @@ class Days:
             standings=[*by_urgency(found.standings)],
             unknown=found.unknown,
             dead=found.dead,
-            minimums=minimums_of(found.items, self.words.supplier_min),
+            minimums=minimums_of(items, self.words.supplier_min),
             has_orders=any(tables.get(kind) is not None for kind in TO_COME),
-            sellers=sorted({item.supplier for item in found.items}),
+            sellers=sorted({item.supplier for item in items}),
             ended=found.ended,
             has_quantities=tables.get(QUANTITIES) is not None,
             holdings=holdings,
