@@ -33,6 +33,7 @@ WITH_JOBS = (
     "costs",
     "moving",
     "beside_rules",
+    "next_year",
     "promotions",
 )
 PRINTED = ("long_run",)  # its table is a text

@@ -68,6 +68,7 @@ BANDS = {
 }  # of periods with demand
 FOLDER = Path(__file__).parent
 STORED, STORED_ODD = FOLDER / "borrowing.csv", FOLDER / "borrowing_odd.csv"
+FIGURES = "regret", "over"
 # The small parts of `study` and `odd_study`.
 SMALL: dict[str, Any] = {
     "kinds": ("intermittent", "shop"),

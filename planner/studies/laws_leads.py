@@ -18,6 +18,7 @@ from collections.abc import Mapping
 from concurrent.futures import ProcessPoolExecutor
 from functools import cache
 from pathlib import Path
+from typing import Any
 
 import click
 import numpy as np
@@ -41,6 +42,8 @@ CASES = [*itertools.product(DEMANDS, TRUE)]
 RECORDS = (5, 10, 20)
 METHODS = ("empirical", "auto")
 SETTINGS = [*itertools.product(COVERS, BACKLOGS)]
+SMALL: dict[str, Any] = {"records": 4, "counts": (5,)}
+FIGURES = "regret", "gain"
 STORED = Path(__file__).with_name("laws_leads.csv")
 
 
@@ -164,7 +167,7 @@ def tables() -> dict[str, str]:
 )
 def main(small: bool, jobs: int, records: int, out: Path | None) -> None:
     """Measure the regret of fitted laws of lead times under true laws."""
-    rows = study(4, (5,), jobs) if small else study(records, jobs=jobs)
+    rows = study(**SMALL, jobs=jobs) if small else study(records, jobs=jobs)
     if out:
         rows.to_csv(out, index=False, float_format="%.3f")
     click.echo(rows.round(2).to_string(index=False))

@@ -30,6 +30,7 @@ STUDIES = (
     "season_plans",
     "season_year",
     "beside_rules",
+    "next_year",
     "floors",
     "season_real",
     "by_commands",

@@ -56,7 +56,11 @@ CASES = [
     for kind in KINDS
     for record in RECORDS
 ]
-SMALL = [("strong", "steady", 104)]
+SMALL: dict[str, Any] = {
+    "cases": [("strong", "steady", 104)],
+    "numbers": 1,
+    "items": 30,
+}
 FIGURES = ("fill", "peak", "at_equal_fill")
 DRAWS = 400  # of items, for the error of a ratio of stocks
 
@@ -256,7 +260,7 @@ def tables() -> dict[str, str]:
 )
 def main(small: bool, out: Path | None) -> None:
     """Compare plans by month with plans that know of no season."""
-    rows = study(SMALL, 1, 30) if small else study(CASES)
+    rows = study(**SMALL) if small else study(CASES)
     if out:
         rows.to_csv(out, index=False, float_format="%.4f")
     click.echo(rows.round(3).to_string(index=False))

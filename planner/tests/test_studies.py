@@ -29,6 +29,7 @@ from planner.studies import (
     laws_leads,
     level_spread_tail,
     moving,
+    next_year,
     page,
     reviews,
     promotions,
@@ -65,52 +66,57 @@ def borrowing_rows() -> pd.DataFrame:
     return rows[~rows["kind"].str.startswith("all ") & (rows["part"] == "all")]
 
 
-# Of each study: its small part, how many rows that has, and by what they are named.
+# Of each study: its small part, or the module that has one; how many rows that has; by what they are named; and the figures
+# that are compared.
 SMALL = {
-    "laws": (lambda: laws.study(**laws.SMALL), 12, "law periods method"),
-    "laws_leads": (lambda: laws_leads.study(4, (5,)), 8, "demand leads seen method"),
-    "borrowing": (borrowing_rows, 4 + 5, "kind periods part method"),
+    "laws": (laws, 12, "law periods method", laws.FIGURES),
+    "laws_leads": (laws_leads, 8, "demand leads seen method", laws_leads.FIGURES),
+    "borrowing": (borrowing_rows, 4 + 5, "kind periods part method", borrowing.FIGURES),
     "borrowing_odd": (
         lambda: borrowing.odd_study(**borrowing.SMALL_ODD),
         4,
         "item periods method",
+        borrowing.FIGURES,
     ),
     "level_spread_tail": (
-        lambda: level_spread_tail.study(**level_spread_tail.SMALL),
+        level_spread_tail,
         16,
         "set backlog law",
+        level_spread_tail.FIGURES,
     ),
-    "doubt": (lambda: doubt.study(**doubt.SMALL), 2, "law periods"),
-    "cut_sales": (
-        lambda: cut_sales.study(**cut_sales.SMALL),
-        4,
-        "law periods short way",
-    ),
+    "doubt": (doubt, 2, "law periods", doubt.FIGURES),
+    "cut_sales": (cut_sales, 4, "law periods short way", cut_sales.FIGURES),
     "seasons": (
         lambda: seasons.study(seasons.SMALL, 100),
         len(seasons.SMALL),
         "kind season years items",
+        seasons.FIGURES,
     ),
     "calendars": (
         lambda: calendars.study(calendars.SMALL_SEEDS),
         len(calendars.KINDS),
         "kind",
+        calendars.FIGURES,
     ),
+    "next_year": (next_year, 4, "kind follow seed way", next_year.FIGURES),
     "season_plans": (
-        lambda: season_plans.study(season_plans.SMALL, 1, 30),
+        season_plans,
         4,
         "season demand weeks wanted way",
+        season_plans.FIGURES,
     ),
-    "reviews": (lambda: reviews.study(**reviews.SMALL), 2, "law leads review way"),
+    "reviews": (reviews, 2, "law leads review way", reviews.FIGURES),
     "costs": (
         lambda: pd.DataFrame(costs.study(*costs.catalogues(True))),
         4,
         "set policy backlog",
+        costs.FIGURES,
     ),
     "season_year": (
         lambda: season_year.study(season_year.SMALL),
         1,
         "season demand lead wanted",
+        season_year.FIGURES,
     ),
     "dependence": (
         lambda: dependence.study(
@@ -118,32 +124,25 @@ SMALL = {
         ),
         len(dependence.SMALL),
         "kind law size length",
+        ["regret", "promise"],
     ),
-}
-FIGURES = {
-    "costs": costs.FIGURES,
-    "reviews": reviews.FIGURES,
-    "cut_sales": cut_sales.FIGURES,
-    "laws": laws.FIGURES,
-    "laws_leads": ["regret", "gain"],
-    "borrowing": ["regret", "over"],
-    "borrowing_odd": ["regret", "over"],
-    "level_spread_tail": level_spread_tail.FIGURES,
-    "doubt": doubt.FIGURES,
-    "seasons": seasons.FIGURES,
-    "calendars": calendars.FIGURES,
-    "season_plans": season_plans.FIGURES,
-    "season_year": season_year.FIGURES,
-    "dependence": ["regret", "promise"],
 }
 
 
 @pytest.mark.parametrize("name", SMALL)
 def test_small_part(name: str, top: Path) -> None:
-    study, count, keys = SMALL[name]
-    rows = study()
+    study, count, keys, figures = SMALL[name]
+    rows = study() if callable(study) else study.study(**study.SMALL)
     assert len(rows) == count
-    compare(rows, stored(top, name), keys.split(), FIGURES[name])
+    compare(rows, stored(top, name), keys.split(), figures)
+
+
+def test_verdicts_of_a_next_year() -> None:
+    """Two errors of 3 points decide: a way that needs 7% less does so, not one that needs 5% less."""
+    later = {str(more): {"beside": more, "beside_error": 3} for more in (-7, -5, 5)}
+    said = [next_year.verdict_of(way, later) for way in ("", *later)]
+    assert said == "missed confirmed unsure false".split()
+    assert next_year.verdict_of("", {"5": later["5"]}) == "confirmed"
 
 
 def test_small_part_of_fills(top: Path) -> None:
