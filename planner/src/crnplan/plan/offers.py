@@ -135,21 +135,12 @@ def met_on_past(
     left = total - math.fsum(sizes[name] for name in drawn.taken)
     own_sizes = np.array([sizes[name] for name in others])
     chances = np.array([drawn.chances[name] for name in others])
-
-    def summed(figures: Sequence[float], parts: Sequence[float]) -> float:
-        """Returns the sum of a figure of items that were taken, and of others by its parts."""
-        known = math.fsum(figures)
-        if not others:
-            return known
-        return known + estimated(np.array(parts), own_sizes, chances, left)
-
-    asked = summed(
-        [offer.asked for offer in taken], [offers[name].asked for name in others]
-    )
-    unmet = [
-        summed(row[: len(taken)], row[len(taken) :])
-        for row in zip(
-            *(offer.unmet for offer in taken), *(offers[name].unmet for name in others)
-        )
-    ]
+    tried, sums = [*taken, *(offers[name] for name in others)], list[float]()
+    for row in zip(*((offer.asked, *offer.unmet) for offer in tried)):
+        total = math.fsum(row[: len(taken)])
+        if others:
+            parts = np.array(row[len(taken) :])
+            total += estimated(parts, own_sizes, chances, left)
+        sums.append(total)
+    asked, *unmet = sums
     return 1 - np.array(unmet) / asked

@@ -229,7 +229,7 @@ class Finding:
             group: grids[group][max(place - 1, 0) : place + MORE + 1]
             for group, place in places.items()
         }
-        ordered = {name: names[name] for name in sorted(names)}
+        ordered = dict(sorted(names.items()))
         tried = dict(self.offers(asked, self.stores[-1], past_of, ordered))
         sizes = self.sizes_of(ordered)
         shares = dict[str, OnPast]()
