@@ -14,7 +14,7 @@ import numpy as np
 from scipy import special
 
 from ..arguments import judged
-from ..chances import DEMANDS, Floats, Whole, blurred, in_items, mixture, scaled
+from ..chances import Floats, Whole, blurred, in_items, mixture, scaled
 from ..errors import Refused, argument
 from ..formats import MOST_DEMAND, MOST_LEAD
 from ..law import Law
@@ -162,7 +162,7 @@ def family_law(boxes: Sequence[int], method: str, box: int = 1) -> FittedLaw:
     if method == "auto":
         known, law = mixed_law(sample, names, known)
     else:
-        law = in_items(predictive_of(names[0], packs, DEMANDS), pack)
+        law = in_items(predictive_of(names[0], packs), pack)
     return FittedLaw.made(Law.of_chances(law), names[0], known, box)
 
 
