@@ -1,6 +1,5 @@
 -- A state taken further, block by block.
-use Rattle.std.proofs.Common.{◌≡◌, ℕ, ◌+◌, ◌<◌, ◌≤◌, List, Some, length, slice_get, get_or, refl, subst, sym, ◌∙◌, arith}
-use Rattle.std.proofs.lemmas.Option.{slice_get_read}
+use Rattle.std.proofs.Common.{◌≡◌, ℕ, ◌+◌, ◌<◌, ◌≤◌, List, Some, slice_get, refl, subst, sym, ◌∙◌, arith}
 use Rattle.crn_cipher.specs.declared.stream.Block.{Block}
 use Rattle.crn_cipher.specs.Following.{FollowOn}
 use Rattle.crn_stock.specs.declared.policy.Policy.{Policy}
@@ -45,10 +44,10 @@ advanced s k p v w n is_policy itself advances there =
     }
 
 -- the block at place j of those that follow from a number on is the one that comes after j of them
-pub next_follows : (key : List ℕ) (from j at count : ℕ) (blocks : List Block) (b : Block) → FollowOn key from count blocks → j < count → count ≤ length blocks → b ≡ get_or blocks j b → at ≡ from + j
+pub next_follows : (key : List ℕ) (from j at count : ℕ) (blocks : List Block) (b : Block) → FollowOn key from count blocks → j < count → slice_get blocks j ≡ Some b → at ≡ from + j
     → (b.key ≡ key) × (b.number ≡ at)
-next_follows key from j at count blocks b follow lt enough read here =
-    let found = follow j b lt (slice_get_read blocks (length blocks) j b refl (omega (arith, lt, enough)) read) in
+next_follows key from j at count blocks b follow lt is here =
+    let found = follow j b lt is in
     (found.0, found.1 ∙ sym here)
 
 pub taken_on : (taken taken' at at' count : ℕ) → taken ≡ at → taken' ≡ taken + count → at' ≡ at + count → taken' ≡ at'

@@ -3,3 +3,4 @@ pub mod Ends
 pub mod Jobs
 pub mod Looks
 pub mod Refusals
+pub mod Taken

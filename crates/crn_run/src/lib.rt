@@ -12,6 +12,7 @@ mod pausing;
 mod prepared;
 mod refusal;
 mod run;
+mod taken;
 mod threads;
 mod waiting;
 mod worker;

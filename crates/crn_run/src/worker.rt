@@ -10,11 +10,11 @@ ghost use Rattle.crn_run.specs.Ends.{EndsAs, is_held};
 ghost use Rattle.crn_run.specs.Gates.{HeldAt, PassedUpTo, WasAsked};
 ghost use Rattle.crn_run.specs.Turns.{AfterTurn, RunsByTurns, WaitsAfter};
 ghost use Rattle.crn_run.specs.Inner.Ends.{Advances};
+ghost use Rattle.crn_run.specs.Inner.Taken.{taken_in};
 
-use crate::batch::room;
 use crate::gate::{Gate, Permit, ask};
+use crate::taken::{Places, Taken};
 use crate::waiting::Waiting;
-use crn_cipher::Block;
 use crn_ring::{Batch, LeftReader, Reader, Ring};
 use crn_stock::laws::onward_from_itself;
 use crn_stock::{Policy, Scenario, State, Terms};
@@ -79,12 +79,12 @@ pub fn run_policy<R: Wait, G: Gate>(
 {
     let rules = &scenario.policies()[policy as usize];
     onward_from_itself(&state);
-    let mut blocks = room();
+    let mut places = Places::new();
     let mut waiting = Waiting::new(&reader);
     for _ in rt.forever() {
-        match take_or_wait(rt, ring, &mut reader, &mut blocks, &mut waiting) {
-            Batch::Got { count } => {
-                if !apply_all(scenario, rules, policy, &blocks, count, &mut state, gate) {
+        match take_or_wait(rt, ring, &mut reader, &mut places, &mut waiting) {
+            Batch::Got { count: _ } => {
+                if !apply_all(scenario, rules, policy, &places, &mut state, gate) {
                     return PolicyEnd::Held(state, reader.into_left(ring));
                 }
             }
@@ -95,50 +95,48 @@ pub fn run_policy<R: Wait, G: Gate>(
     unreachable!()
 }
 
-// Takes all blocks that fit into `blocks` of those that the last look at the ring has shown, and looks again only if none is
+// Takes all blocks that fit into `places` of those that the last look at the ring has shown, and looks again only if none is
 // left.
 #[inline(always)]
 fn take_or_wait<R: Wait>(
     rt: &R,
     ring: &Ring,
     reader: &mut Reader,
-    blocks: &mut [Block],
+    places: &mut Places,
     waiting: &mut Waiting<Reader>,
 ) -> Batch
     requires reader { IsReaderOf ring.now reader.old × ((reader_part reader.old).seen_end ≡ false) }
-    requires places { 0 < length blocks.old }
     ensures reader { IsReaderOf ring.now reader.new × (reader_number reader.new ≡ reader_number reader.old) }
-    ensures places { length blocks.new ≡ length blocks.old }
-    ensures answer { AfterTurn (spec_of ring.now) (reader_part reader.old) (reader_part reader.new) blocks.old blocks.new result }
+    ensures count { places.new.count ≡ taken_in result }
+    ensures answer { AfterTurn (spec_of ring.now) (reader_part reader.old) (reader_part reader.new) places.old.blocks places.new.blocks result }
     ensures waits { WaitsAfter (spec_of ring.now) (reader_part reader.new) waiting.old.counted waiting.new.counted result }
     ensures within { (reader_part reader.new).taken ≤ (spec_of ring.now).id.total }
 {
-    let count = reader.take_shown(ring, blocks);
+    let count = places.take_shown(ring, reader);
     if count > 0 {
         return Batch::Got { count };
     }
-    look_or_wait(rt, ring, reader, blocks, waiting)
+    look_or_wait(rt, ring, reader, places, waiting)
 }
 
-// Looks at the ring and takes all published blocks that fit into `blocks`. If its look shows none, and no end, it waits before
+// Looks at the ring and takes all published blocks that fit into `places`. If its look shows none, and no end, it waits before
 // it returns.
 fn look_or_wait<R: Wait>(
     rt: &R,
     ring: &Ring,
     reader: &mut Reader,
-    blocks: &mut [Block],
+    places: &mut Places,
     waiting: &mut Waiting<Reader>,
 ) -> Batch
     requires reader { IsReaderOf ring.now reader.old × ((reader_part reader.old).seen_end ≡ false) }
-    requires places { 0 < length blocks.old }
     ensures reader { IsReaderOf ring.now reader.new × (reader_number reader.new ≡ reader_number reader.old) }
-    ensures places { length blocks.new ≡ length blocks.old }
-    ensures answer { AfterBatch (spec_of ring.now) (reader_part reader.old) (reader_part reader.new) blocks.old blocks.new result }
+    ensures count { places.new.count ≡ taken_in result }
+    ensures answer { AfterBatch (spec_of ring.now) (reader_part reader.old) (reader_part reader.new) places.old.blocks places.new.blocks result }
     ensures waits { WaitsAfter (spec_of ring.now) (reader_part reader.new) waiting.old.counted waiting.new.counted result }
     ensures within { (reader_part reader.new).taken ≤ (spec_of ring.now).id.total }
 {
     waiting.before_look(&*reader);
-    let batch = reader.take_batch(ring, blocks);
+    let batch = places.take_batch(ring, reader);
     if let Batch::Empty { published: _ } = batch {
         waiting.wait_for_block(rt, ring, reader);
     }
@@ -162,32 +160,31 @@ fn ended(ring: &Ring, published: u64, state: State, reader: Reader) -> PolicyEnd
     }
 }
 
-// Applies the first `count` blocks, which are the state's next ones, each after the gate has passed it. Returns whether the
-// gate has passed them all. If not, the state stands before the first that it has not passed.
+// Applies the blocks that the reader's last call has taken, which are the state's next ones, each after the gate has passed it.
+// Returns whether the gate has passed them all. If not, the state stands before the first that it has not passed.
 fn apply_all<G: Gate>(
     scenario: &Scenario,
     rules: &Policy,
     policy: u32,
-    blocks: &[Block],
-    count: usize,
+    places: &Places,
     state: &mut State,
     gate: &mut G,
 ) -> bool
     requires rules { IsPolicy rules.now }
     requires stands { StandsBefore scenario.now.model (next_block state.old) state.old }
-    requires blocks { (count ≤ length blocks.now) × FollowOn scenario.now.key (next_block state.old) count blocks.now }
-    requires below { next_block state.old + count ≤ total scenario.now.model }
+    requires blocks { FollowOn scenario.now.key (next_block state.old) places.now.count places.now.blocks }
+    requires below { next_block state.old + places.now.count ≤ total scenario.now.model }
     requires gate { G.refused gate.old ≡ false }
     ensures advances { Advances scenario.now.model rules.now scenario.now.key state.old state.new }
-    ensures all { result ≡ true → next_block state.new ≡ next_block state.old + count }
+    ensures all { result ≡ true → next_block state.new ≡ next_block state.old + places.now.count }
     ensures gate { G.refused gate.new ≡ not result }
     ensures passed { result ≡ true → PassedUpTo G.asked policy (next_block state.old) (next_block state.new) gate.old gate.new }
-    ensures held { result ≡ false → (next_block state.new < next_block state.old + count) × HeldAt G.asked policy (next_block state.old) (next_block state.new) gate.old gate.new }
+    ensures held { result ≡ false → (next_block state.new < next_block state.old + places.now.count) × HeldAt G.asked policy (next_block state.old) (next_block state.new) gate.old gate.new }
 {
     let terms = Terms::of(rules, scenario.model().costs());
-    for k in 0..count {
-        let next = &blocks[k];
-        match ask(gate, policy, next.number) {
+    for k in 0..places.count() {
+        let next = places.taken(k);
+        match ask(gate, policy, next.block().number) {
             None => return false,
             Some(permit) => apply(scenario, &terms, policy, next, permit, state),
         }
@@ -195,20 +192,21 @@ fn apply_all<G: Gate>(
     true
 }
 
-// Applies the next block, for which the gate has given its leave, to the state of policy number `policy`.
+// Applies the next block, which the reader has taken and for which the gate has given its leave, to the state of policy number
+// `policy`.
 #[inline(always)]
 fn apply(
     scenario: &Scenario,
     terms: &Terms,
     policy: u32,
-    block: &Block,
+    next: Taken<'_>,
     permit: Permit,
     state: &mut State,
 )
-    requires permit { (permit.policy ≡ policy) × (permit.block ≡ block.now.number) }
-    requires block { CanTake scenario.now.model block.now state.old }
-    ensures { HasTaken scenario.now.model (terms_in terms.now) block.now state.old state.new }
+    requires permit { (permit.policy ≡ policy) × (permit.block ≡ next.block.now.number) }
+    requires block { CanTake scenario.now.model next.block.now state.old }
+    ensures { HasTaken scenario.now.model (terms_in terms.now) next.entry.block.now state.old state.new }
 {
     drop(permit);
-    state.take_block_by(terms, scenario.model(), block);
+    state.take_block_by(terms, scenario.model(), next.block());
 }

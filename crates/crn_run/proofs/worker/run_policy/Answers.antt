@@ -18,7 +18,6 @@ loop-init g c = record {
   running = search rules;
   taken = search rules;
   advances = search rules;
-  places = search rules;
   gate = c.requires.gate;
   turns = no_turn (spec_of c.args.ring.now) (reader_part c.args.reader) _ c.new-waiting.ensures.counted;
   passed = passed_none g.G.Gate.asked c.args.policy (next_block c.args.state) c.args.gate.now;
@@ -26,8 +25,8 @@ loop-init g c = record {
 
 pub returns-then-not-apply_all-clause-turns : goal.returns-then-not-apply_all-clause-turns
 returns-then-not-apply_all-clause-turns g c =
-    let turns = next_turn (spec_of c.args.ring.now) (reader_part c.args.reader) (reader_part c.loop.reader) (reader_part c.take_or_wait.new.reader) c.loop.waiting.counted c.take_or_wait.new.waiting.counted c.loop.blocks c.take_or_wait.new.blocks
-    c.take_or_wait.result c.loop.invariant.turns c.loop.invariant.places c.take_or_wait.ensures.answer c.take_or_wait.ensures.waits in (
+    let turns = next_turn (spec_of c.args.ring.now) (reader_part c.args.reader) (reader_part c.loop.reader) (reader_part c.take_or_wait.new.reader) c.loop.waiting.counted c.take_or_wait.new.waiting.counted c.loop.places.blocks c.take_or_wait.new.places.blocks
+    c.take_or_wait.result c.loop.invariant.turns c.loop.places.places c.take_or_wait.ensures.answer c.take_or_wait.ensures.waits in (
       c.take_or_wait.new.waiting.counted,
       reader_part c.take_or_wait.new.reader,
       turns,
@@ -36,16 +35,14 @@ returns-then-not-apply_all-clause-turns g c =
 
 pub returns-in-Ended-clause-turns : goal.returns-in-Ended-clause-turns
 returns-in-Ended-clause-turns g c =
-    let turns = next_turn (spec_of c.args.ring.now) (reader_part c.args.reader) (reader_part c.loop.reader) (reader_part c.take_or_wait.new.reader) c.loop.waiting.counted c.take_or_wait.new.waiting.counted c.loop.blocks c.take_or_wait.new.blocks
-    c.take_or_wait.result c.loop.invariant.turns c.loop.invariant.places c.take_or_wait.ensures.answer c.take_or_wait.ensures.waits in
+    let turns = next_turn (spec_of c.args.ring.now) (reader_part c.args.reader) (reader_part c.loop.reader) (reader_part c.take_or_wait.new.reader) c.loop.waiting.counted c.take_or_wait.new.waiting.counted c.loop.places.blocks c.take_or_wait.new.places.blocks
+    c.take_or_wait.result c.loop.invariant.turns c.loop.places.places c.take_or_wait.ensures.answer c.take_or_wait.ensures.waits in
     by_turns (spec_of c.args.ring.now) (reader_part c.args.reader) c.in-Ended.published (spec_of c.args.ring.now).id.total c.loop.state c.take_or_wait.new.reader c.ended.result c.take_or_wait.new.waiting.counted turns c.ended.ensures.total c.ended.ensures.early
 
 pub apply_all-requires-clause-blocks : goal.apply_all-requires-clause-blocks
 apply_all-requires-clause-blocks g c =
-    let took : TakesNext (spec_of c.args.ring.now) (reader_part c.loop.reader) (reader_part c.take_or_wait.new.reader) c.loop.blocks c.take_or_wait.new.blocks c.in-Got.count = search rules in (
-      search rules,
-      follow_from (spec_of c.args.ring.now).id.key c.args.scenario.now.key (reader_part c.loop.reader).taken (next_block c.loop.state) c.in-Got.count c.take_or_wait.new.blocks c.requires.ring.0 c.loop.invariant.taken took.follow,
-    )
+    let took : TakesNext (spec_of c.args.ring.now) (reader_part c.loop.reader) (reader_part c.take_or_wait.new.reader) c.loop.places.blocks c.take_or_wait.new.places.blocks c.take_or_wait.new.places.count = search rules in
+    follow_from (spec_of c.args.ring.now).id.key c.args.scenario.now.key (reader_part c.loop.reader).taken (next_block c.loop.state) c.take_or_wait.new.places.count c.take_or_wait.new.places.blocks c.requires.ring.0 c.loop.invariant.taken took.follow
 
 pub returns-then-not-apply_all-clause-end : goal.returns-then-not-apply_all-clause-end
 returns-then-not-apply_all-clause-end g c =
@@ -54,9 +51,9 @@ returns-then-not-apply_all-clause-end g c =
     let is_policy : slice_get s.policies c.args.policy ≡ Some p = read_policy s.policies c.policies.result.now c.args.policy p c.policies.ensures.value (search rules) c.index-policies-policy.is in
     let all : Advances s.model p s.key c.args.state c.apply_all.new.state =
     advances_then s.model p s.key c.args.state c.loop.state c.apply_all.new.state c.loop.invariant.advances c.apply_all.ensures.advances in
-    let took : TakesNext (spec_of c.args.ring.now) (reader_part c.loop.reader) (reader_part c.take_or_wait.new.reader) c.loop.blocks c.take_or_wait.new.blocks c.in-Got.count = search rules in
+    let took : TakesNext (spec_of c.args.ring.now) (reader_part c.loop.reader) (reader_part c.take_or_wait.new.reader) c.loop.places.blocks c.take_or_wait.new.places.blocks c.take_or_wait.new.places.count = search rules in
     let within : (reader_part c.take_or_wait.new.reader).taken ≤ (spec_of c.args.ring.now).id.total = search rules in
-    let before : next_block c.apply_all.new.state < next_block c.loop.state + c.in-Got.count = (c.apply_all.ensures.held (search rules)).0 in (
+    let before : next_block c.apply_all.new.state < next_block c.loop.state + c.take_or_wait.new.places.count = (c.apply_all.ensures.held (search rules)).0 in (
       omega (arith, before, within, took.taken, c.loop.invariant.taken),
       advanced s c.args.policy p c.args.state c.apply_all.new.state (next_block c.apply_all.new.state) is_policy c.onward_from_itself.ensures all refl,
       search rules,
@@ -71,18 +68,17 @@ pub loop-preserved-else-not-apply_all : goal.loop-preserved-else-not-apply_all
 loop-preserved-else-not-apply_all g c =
     let s = c.args.scenario.now in
     let p = c.index-policies-policy.result in
-    let took : TakesNext (spec_of c.args.ring.now) (reader_part c.loop.reader) (reader_part c.take_or_wait.new.reader) c.loop.blocks c.take_or_wait.new.blocks c.in-Got.count = search rules in
-    let went : next_block c.apply_all.new.state ≡ next_block c.loop.state + c.in-Got.count = search rules in
+    let took : TakesNext (spec_of c.args.ring.now) (reader_part c.loop.reader) (reader_part c.take_or_wait.new.reader) c.loop.places.blocks c.take_or_wait.new.places.blocks c.take_or_wait.new.places.count = search rules in
+    let went : next_block c.apply_all.new.state ≡ next_block c.loop.state + c.take_or_wait.new.places.count = search rules in
     record {
       reader = search rules;
       number = search rules;
       running = took.running;
-      taken = taken_on (reader_part c.loop.reader).taken (reader_part c.take_or_wait.new.reader).taken (next_block c.loop.state) (next_block c.apply_all.new.state) c.in-Got.count c.loop.invariant.taken took.taken went;
+      taken = taken_on (reader_part c.loop.reader).taken (reader_part c.take_or_wait.new.reader).taken (next_block c.loop.state) (next_block c.apply_all.new.state) c.take_or_wait.new.places.count c.loop.invariant.taken took.taken went;
       advances = advances_then s.model p s.key c.args.state c.loop.state c.apply_all.new.state c.loop.invariant.advances c.apply_all.ensures.advances;
-      places = search rules;
       gate = search rules;
-      turns = next_turn (spec_of c.args.ring.now) (reader_part c.args.reader) (reader_part c.loop.reader) (reader_part c.take_or_wait.new.reader) c.loop.waiting.counted c.take_or_wait.new.waiting.counted c.loop.blocks c.take_or_wait.new.blocks
-          c.take_or_wait.result c.loop.invariant.turns c.loop.invariant.places c.take_or_wait.ensures.answer c.take_or_wait.ensures.waits;
+      turns = next_turn (spec_of c.args.ring.now) (reader_part c.args.reader) (reader_part c.loop.reader) (reader_part c.take_or_wait.new.reader) c.loop.waiting.counted c.take_or_wait.new.waiting.counted c.loop.places.blocks c.take_or_wait.new.places.blocks
+          c.take_or_wait.result c.loop.invariant.turns c.loop.places.places c.take_or_wait.ensures.answer c.take_or_wait.ensures.waits;
       passed = passed_then g.G.Gate.asked c.args.policy (next_block c.args.state) (next_block c.loop.state) (next_block c.apply_all.new.state) c.args.gate.now c.loop.gate c.apply_all.new.gate c.loop.invariant.passed (c.apply_all.ensures.passed (search rules));
     }
 

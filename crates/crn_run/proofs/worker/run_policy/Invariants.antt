@@ -1,7 +1,6 @@
-use Rattle.std.proofs.Common.{◌≡◌, length, false}
+use Rattle.std.proofs.Common.{◌≡◌, false}
 use Rattle.crn_stock.specs.Stock.{next_block}
 use Rattle.crn_ring.specs.Calls.{IsReaderOf, reader_number, reader_part, spec_of}
-use Rattle.crn_run.specs.declared.batch.TheConstants.{BATCH}
 use Rattle.crn_run.specs.Gates.{PassedUpTo}
 use Rattle.crn_run.specs.Turns.{TakesByTurns}
 use Rattle.crn_run.specs.Inner.Ends.{Advances}
@@ -14,7 +13,6 @@ invariant-loop g l = record {
   running : (reader_part l.reader).seen_end ≡ false;
   taken : (reader_part l.reader).taken ≡ next_block l.state;
   advances : Advances l.scenario.model l.rules l.scenario.key l.initial.state l.state;
-  places : length l.blocks ≡ BATCH;
   gate : g.G.Gate.refused l.gate ≡ false;
   turns : TakesByTurns (spec_of l.ring) (reader_part l.initial.reader) (reader_part l.reader) l.waiting.counted;
   passed : PassedUpTo g.G.Gate.asked l.policy (next_block l.initial.state) (next_block l.state) l.initial.gate l.gate;
