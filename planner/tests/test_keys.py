@@ -11,15 +11,8 @@ import pytest
 
 import crnplan as crn
 from planner.tests.conftest import shared
-from planner.tests.plan.items import START, several, tables_of
+from planner.tests.plan.items import QUICK as WORDS, START, several, tables_of
 
-WORDS: dict[str, Any] = {
-    "fit": "empirical",
-    "borrow": "none",
-    "periods": 64,
-    "replications": 4,
-    "jobs": 1,
-}
 KEYS = {f"I-{place:03}": 4711 + place for place in range(4)}
 
 

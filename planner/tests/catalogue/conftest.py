@@ -17,7 +17,7 @@ from planner.tests.catalogue.made import NO_PLAN, TODAY, Made, made
 from planner.tests.catalogue.months import BEFORE, ITEMS, Month
 from planner.tests.conftest import shared
 from planner.tests.backtest.test_catalogue import write
-from planner.tests.plan.items import SHORT, several
+from planner.tests.plan.items import QUICK, several
 from crnplan.read.item import Item
 
 FILES = ("Bewegungen.csv", "Artikel.csv", "Bestellungen.csv")
@@ -102,13 +102,7 @@ def month(
     """Returns eight weeks after a plan of 52, which nobody changes."""
     room = tmp_path_factory.mktemp("months")
     demand, masters = write(room, dozen)
-    words = {
-        **SHORT,
-        "fit": "empirical",
-        "borrow": "none",
-        "jobs": 1,
-        "program": program,
-    }
+    words = {**QUICK, "program": program}
     month = Month(
         pd.read_csv(demand, parse_dates=["date"]),
         pd.read_csv(masters),

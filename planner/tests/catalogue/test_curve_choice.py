@@ -162,6 +162,17 @@ def budgets_of(items: Items) -> list[Budget]:
     return plain + budgets
 
 
+def test_steps_of_one_price_are_in_order_of_items() -> None:
+    """So the first of equal items are the first that have more, whatever their parts are."""
+    answer, points = made_item(np.random.default_rng(1), 9)
+    items = [(str(place), 1.0, answer, points[:2]) for place in range(40)]
+    ladder = in_parts(items, 7).ladder()
+    for stretch in ladder.whole:
+        steps, _ = ladder.places(stretch)
+        pairs = [*zip(steps.prices, steps.owner)]
+        assert pairs == sorted(pairs)
+
+
 @pytest.mark.parametrize("seed", range(6))
 def test_bound_against_every_choice(seed: int) -> None:
     """Loses no more against the best of all choices than it says, and keeps what was asked for."""

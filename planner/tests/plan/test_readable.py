@@ -33,6 +33,9 @@ def test_log_that_vanishes(
     room = tmp_path / "room"
     room.mkdir()
     assert readable(index, room) == (index, True)
+    for log in "wal", "journal":
+        index.with_name(f"{index.name}-{log}").touch()
+    assert readable(index, room) == (room / index.name, False)
 
 
 def test_log_that_stays(index: Path, tmp_path: Path) -> None:
