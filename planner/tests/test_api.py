@@ -29,6 +29,7 @@ from planner.tests.conftest import (
     cases_beside,
     heavy_of,
 )
+from planner.tests.plan.items import QUICK
 from planner.tests.planned_tables import whole_frame
 
 CASES = cases_beside(__file__)
@@ -220,13 +221,7 @@ def test_from_a_history_to_a_decision(program: Path) -> None:
     assert decision.loc["best", "verdict"] in {"better", "undecided", "worse"}
 
 
-SETTINGS = {
-    "fit": "empirical",
-    "borrow": "none",
-    "periods": 64,
-    "replications": 8,
-    "jobs": 1,
-}
+SETTINGS = {**QUICK, "replications": 8}
 FILES = ("demand", "items", "orders")
 
 

@@ -27,7 +27,7 @@ from crnplan.read.item import Item
 from planner.tests.conftest import Command, shared
 from planner.tests.planned_tables import whole_frame, whole_rows
 from planner.tests.show.page_reader import Page
-from planner.tests.plan.items import QUICK as SETTINGS, write_tables
+from planner.tests.plan.items import ALONE, QUICK as SETTINGS, write_tables
 
 COUNT, ITEMS, WEEKS, START = 45, 34, 26, datetime.date(2026, 1, 5)  # a Monday
 WANTED = {0: "0.95", 1: "0.95", 2: "0.9", 3: ""}
@@ -273,8 +273,7 @@ def test_backtests_do_not_see_what_came(room: Path, crnplan: Command) -> None:
     (room / "crnplan.toml").write_text("")
     walk = "--record 13 --every 13 --window 13 --jobs 1".split()
     told = crnplan("backtest", room / "plan", *walk)
-    words: Any = {"fit": "empirical", "borrow": NONE, "jobs": 1, "correct": True}
-    words |= {"record": 13, "every": 13, "window": 13}
+    words = {**ALONE, "correct": True, "record": 13, "every": 13, "window": 13}
     plain = crn.backtest(room / "demand.csv", room / "items.csv", **words)
     assert told.output == plain.text
     crnplan("report", room / "plan")

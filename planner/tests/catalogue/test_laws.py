@@ -43,10 +43,10 @@ from crnplan.store.stored import Store
 from crnplan.theory.long_run import NO_POLICY
 from crnplan.theory.many_laws import Promises
 from crnplan.sentences import sentence
+from planner.tests.plan.items import SHORT
 from planner.tests.theory.long_run_costs import fills_of, shortfall_of
 
 WEEKS, ITEMS = 40, 120
-SHORT: dict[str, Any] = {"periods": 64, "replications": 4}
 Facts = dict[str, Any]
 
 

@@ -30,11 +30,10 @@ from crnplan.show.backtest_tables import past_line
 from crnplan.store.files import own_folder
 from crnplan.store.means import Means
 from planner.tests.catalogue.test_together import BACKLOG, SETTINGS, groups_of, made
-from planner.tests.plan.items import unmet_of
+from planner.tests.plan.items import ALONE, unmet_of
 from planner.tests.show.page_reader import Page
 
 COUNT, WANTED = 36, 0.9
-ALONE: dict[str, Any] = {"fit": "empirical", "borrow": NONE, "jobs": 1}
 OWN = Settings(fit="empirical", borrow=NONE, together={REST: WANTED})
 
 

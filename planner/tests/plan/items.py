@@ -17,7 +17,8 @@ from crnplan.read.item import Item
 
 # Short runs: a plan takes little time.
 SHORT: dict[str, Any] = {"periods": 64, "replications": 4}
-QUICK: dict[str, Any] = {"fit": "empirical", "borrow": "none", "jobs": 1, **SHORT}
+ALONE: dict[str, Any] = {"fit": "empirical", "borrow": "none", "jobs": 1}
+QUICK = {**ALONE, **SHORT}
 WEEKS = 60
 START = datetime.date(2024, 1, 1)  # a Monday
 

@@ -13,6 +13,7 @@ import crnplan as crn
 from crnplan.plan.one import plan_one
 from crnplan.read.overrides import DO_NOT_ORDER, SET_LEVELS, Override
 from planner.tests.conftest import Command, cases_beside, rows_of
+from planner.tests.plan.items import SHORT
 from planner.tests.plan.test_bounds import asked, figures_of
 from planner.tests.planned_tables import whole_frame, whole_rows
 
@@ -21,8 +22,7 @@ MONDAY = datetime.date(2024, 1, 1)
 WEEKS = 40
 END = MONDAY + datetime.timedelta(weeks=WEEKS, days=-1)
 QUICK: dict[str, Any] = {
-    "periods": 64,
-    "replications": 4,
+    **SHORT,
     "fit": "empirical",
     "jobs": 1,
     "end": END,

@@ -21,6 +21,7 @@ from crnplan.read.quiet import (
     quiet_periods,
 )
 from planner.tests.conftest import Command, cases_beside
+from planner.tests.plan.items import SHORT
 
 CASES = cases_beside(__file__)
 WEEKS = 156
@@ -129,8 +130,7 @@ MONDAY = datetime.date(2023, 1, 2)
 # By item what is asked for every second week, from one week to another, its status, and today's stock.
 CATALOGUE: dict[str, tuple[int, int, str, int]] = CASES["catalogue"]
 QUICK: dict[str, Any] = {
-    "periods": 64,
-    "replications": 4,
+    **SHORT,
     "fit": "empirical",
     "statuses": {"Z3": "stopped"},
 }

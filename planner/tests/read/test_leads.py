@@ -18,6 +18,7 @@ from crnplan.read.leads import leads_from
 from crnplan.catalogues import read_catalogue
 from crnplan.sentences import sentence
 from planner.tests.conftest import Command
+from planner.tests.plan.items import QUICK
 from planner.tests.read.catalogues import items_of
 
 MONDAY = datetime.date(2026, 1, 5)
@@ -166,9 +167,6 @@ def test_lateness_by_pandas() -> None:
         assert table.seen_90[name] == sorted(took)[-(-9 * len(took) // 10) - 1]
 
 
-OWN: dict[str, Any] = {"jobs": 1, "periods": 64, "replications": 4}
-
-
 def test_a_plan_by_receipts(
     tmp_path: Path, crnplan: Command, program: Path, monkeypatch: pytest.MonkeyPatch
 ) -> None:
@@ -199,28 +197,27 @@ def test_a_plan_by_receipts(
 def test_lateness_of_a_plan(tmp_path: Path, program: Path) -> None:
     """Python and the workbook have the lateness of suppliers; without orders there is none."""
     made = tables({"A": "14", "B": "14"}, {"A": (21, 28, 28, 35, 35, 35), "B": (35,)})
-    plan = crn.plan(*made, program=program, **OWN)
+    plan = crn.plan(*made, program=program, **QUICK)
     (supplier,) = plan.lateness.itertuples(index=False)
     assert [*supplier][:6] == ["Bosch", 2, 7, 14, 31, 35] and supplier.late == 1
     plan.to_excel(tmp_path / "plan.xlsx")
     sheet = openpyxl.load_workbook(tmp_path / "plan.xlsx")["Suppliers"]
     assert [cell.value for cell in sheet[2]][:4] == ["Bosch", 2, 7, 14]
-    assert crn.plan(*made[:2], program=program, **OWN).lateness.empty
+    assert crn.plan(*made[:2], program=program, **QUICK).lateness.empty
     said = "lead_from: 'stock' is not one of orders, masters, both"
     with pytest.raises(crn.Refused, match=said):
-        crn.plan(*made, lead_from="stock", program=program, **OWN)
+        crn.plan(*made, lead_from="stock", program=program, **QUICK)
 
 
 def test_what_a_stated_lead_time_promises(program: Path) -> None:
     """Receipts that take 13 to 29 days keep the wanted fill rate if the plan takes them, and not by the stated 14 days."""
     seen = [*range(13, 30), 20, 22, 24]
     made = tables({"A": "14"}, {"A": seen})
-    words: dict[str, Any] = {**OWN, "fit": "empirical", "borrow": "none"}
     weeks = [max(1, days // 7) for days in seen]  # from a Monday on
     law, lead = crn.fit_demand([1, 2, 3], method="empirical"), crn.fit_lead(weeks)
     fills = {}
     for source in ("masters", "orders"):
-        plan = crn.plan(*made, lead_from=source, program=program, **words)
+        plan = crn.plan(*made, lead_from=source, program=program, **QUICK)
         row = plan.decisions.loc[0]
         today = int(row.s_chosen), int(row.S_chosen)
         costs = {"setup": 20, "holding": 1, "backlog": 9}

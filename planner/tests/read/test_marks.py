@@ -1,6 +1,7 @@
 """Tests the rows that `where` chooses, and what is said of columns of places and states. pandas adds up the source."""
 from __future__ import annotations
 
+import io
 import re
 from pathlib import Path
 from typing import Any
@@ -147,18 +148,22 @@ def test_conditions() -> None:
     assert conditions_of({"a": 1, "b": ["x", "y"]}) == ("a=1", "b=x", "b=y")
 
 
-@pytest.mark.parametrize("column, values, taken", CASES["columns"])
-def test_columns_of_demand(
-    tmp_path: Path, frame: pd.DataFrame, column: str, values: Any, taken: Any
+@pytest.mark.parametrize("kind, column, values, taken", CASES["columns"])
+def test_columns_that_are_asked_about(
+    tmp_path: Path, frame: pd.DataFrame, kind: str, column: str, values: Any, taken: Any
 ) -> None:
-    """A column that may say which rows are sold, or counts something else, is asked about until `where` takes some or all."""
-    frame[column] = [values[row // 2 % 2] for row in range(len(frame))]
-    where = {"demand": {column: taken}} if taken else ()
+    """A column that may say which rows count, or counts something else, is asked about until `where` takes some or all."""
+    tables = {"demand": frame, "items": pd.read_csv(io.StringIO(MASTERS))}
+    table = tables[kind]
+    table[column] = [values[row % 3 % 2] for row in table.index]
+    masters = tables["items"].to_csv(index=False)
+    where = {kind: {column: taken}} if taken else ()
     if taken:
         with pytest.raises(crn.Refused, match=re.escape(repr(column))):
-            read(tmp_path, frame)
-    chosen = frame[frame[column].isin(taken or values)]
-    assert sold(read(tmp_path, frame, where=where)) == sums(chosen)
+            read(tmp_path, frame, masters)
+    tables[kind] = table[table[column].isin(taken or values)]
+    known = tables["demand"].merge(tables["items"].item)
+    assert sold(read(tmp_path, frame, masters, where=where)) == sums(known)
 
 
 @pytest.mark.parametrize("use", CASES["uses"])

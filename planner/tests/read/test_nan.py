@@ -12,6 +12,7 @@ import pytest
 
 import crnplan as crn
 from crnplan.errors import Refused
+from planner.tests.plan.items import ALONE as FAST
 from planner.tests.planned_tables import whole_frame
 from planner.tests.read.catalogues import MASTER, items_of
 
@@ -19,7 +20,6 @@ WEEKS = pd.date_range("2024-01-01", periods=104, freq="W-MON")
 DEMAND = pd.Series([3.0, 0, 9, 1] * 26, WEEKS, name="A")
 DEMAND.iloc[10:30] = np.nan
 MASTERS = pd.DataFrame([{"item": "A", **MASTER, "stock": "9"}])
-FAST: dict[str, Any] = {"fit": "empirical", "borrow": "none", "jobs": 1}
 LONG = pd.DataFrame({"item": "A", "date": WEEKS, "quantity": [*DEMAND]})
 COSTS: dict[str, Any] = {"setup": 1, "holding": 1, "backlog": 2, "today": (1, 2)}
 NAN = float("nan")

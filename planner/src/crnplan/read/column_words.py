@@ -43,6 +43,10 @@ BASE = {*HEADINGS["base"]["words"]}
 KNOWN = WORDS["quantity"].union(*(WORDS[part] for part in PARTS))
 # Words of what came back, which demand may have beside it.
 RETURNED = {it for it in HEADINGS["demand"]["returned"] if " " not in it} | {"return"}
+# What the name of a mark says of an item: a status, that its master is deleted, or that nothing is ordered.
+OF_ITEMS = WORDS[CLOSED].union(HEADINGS["do_not_order"]["words"])
+for _status in ("active", "phase out", "stopped"):
+    OF_ITEMS.update(it for it in HEADINGS["statuses"][_status] if it != "a")
 AMOUNT = re.compile("[2-9]|[1-9][0-9 ]+|0 [0-9]+")  # a plain text that is no mark
 SHORT = re.compile("(?<=[a-z])['\u2019](?=d\\b)")  # as in Rcv'd
 CAMEL = re.compile("(?<=[a-z])(?=[A-Z])")  # between the words of QtyReceived
@@ -176,6 +180,14 @@ def asked_of_demand(name: str, first: Collection[str]) -> str:
     if part or said & (WORDS["none"] | WORDS["harmless"]):
         return COUNT if part == CANCELLED else ""
     return MARK if MARKS.keys() >= {*first} else ""
+
+
+def asked_of_master(name: str, first: Collection[str]) -> str:
+    """Returns what is asked of a column of masters without a role, with the plain texts of its first cells: which items count,
+    if it has marks of a status."""
+    plain = f" {' '.join(words_of(name))} "
+    is_state = any(f" {word} " in plain for word in OF_ITEMS)
+    return ROWS if is_state and MARKS.keys() >= {*first} else ""
 
 
 def asked_of_order(name: str, parts: Collection[str]) -> str:

@@ -8,7 +8,7 @@ from __future__ import annotations
 
 import re
 from collections import Counter
-from collections.abc import Iterable, Iterator, Mapping
+from collections.abc import Callable, Iterable, Iterator, Mapping
 from typing import TYPE_CHECKING, Any, NamedTuple
 
 import numpy as np
@@ -31,6 +31,7 @@ from .column_words import (
     ROWS,
     WORDS,
     asked_of_demand,
+    asked_of_master,
     asked_of_order,
     asked_of_stock,
     is_base,
@@ -65,6 +66,8 @@ STATE_KINDS = {"demand", "orders", "stock", "on_order", "placed"}
 MOST_VALUES = 6  # that are named
 STATES = {name: {*words} for name, words in HEADINGS["states"].items()}
 NOTHING = re.compile(r"[-+0.,\s]*")  # no number, or 0
+# What is asked of a column by its name and its first cells, by the kind of its table.
+ASKED_BY_CELLS = {"demand": asked_of_demand, "items": asked_of_master}
 CONDITION = re.compile(rf"(?:({'|'.join(ROLES)})\.)?([^=]*[^=\s][^=]*)=(.*)")
 
 
@@ -172,12 +175,12 @@ def filed_in(kind: str, sheet: Sheet) -> int | None:
 
 
 def asked_in(kind: str, sheet: Sheet, stated: Mapping[str, str]) -> dict[str, str]:
-    """Returns what is asked of the columns of demand, open orders and stock, by name. A number is not asked about if it may
-    have a role that is stated, or of which a column in base units is there."""
+    """Returns what is asked of the columns of demand, masters, open orders and stock, by name. A number is not asked about if
+    it may have a role that is stated, or of which a column in base units is there."""
     columns = sheet.columns
     asked = dict[str, str]()
-    if kind == "demand":
-        return asked_in_demand(sheet)
+    if kind in ASKED_BY_CELLS:
+        return asked_by_cells(ASKED_BY_CELLS[kind], sheet)
     if kind not in ("on_order", "stock"):
         return asked
     known = {role for role in columns if is_base(columns[role].name)} | stated.keys()
@@ -200,8 +203,10 @@ def asked_in(kind: str, sheet: Sheet, stated: Mapping[str, str]) -> dict[str, st
     return asked
 
 
-def asked_in_demand(sheet: Sheet) -> dict[str, str]:
-    """Returns what is asked of the columns of demand, by name. The first rows tell which may have marks."""
+def asked_by_cells(
+    asked_of: Callable[[str, set[str]], str], sheet: Sheet
+) -> dict[str, str]:
+    """Returns what is asked of the columns of a table without a role, by name. The first rows tell which may have marks."""
     asked = dict[str, str]()
     for place, name in enumerate(sheet.heading):
         first = {
@@ -209,7 +214,7 @@ def asked_in_demand(sheet: Sheet) -> dict[str, str]:
             for _, cells in sheet.first_rows
             if place < len(cells)
         }
-        use = asked_of_demand(name, first)
+        use = asked_of(name, first)
         if use and place not in sheet.used and not use_of(name):
             asked[name] = use
     return asked
