@@ -313,7 +313,6 @@ def answer_of(question: Question, choice: Choice, program: str) -> Answer:
     if choice.is_bounded and verdict not in (UNCOMPARED, NEW) and not choice.worse:
         verdict = BOUNDED
     bounds = [*bounds_of(question, choice)]
-    coverage = next((cost for name, _, cost in bounds if name in COVERAGES), None)
     return Answer(
         verdict,
         source,
@@ -327,7 +326,7 @@ def answer_of(question: Question, choice: Choice, program: str) -> Answer:
         figures.get(UNDAMPED),
         theory.step,
         confidence_cost_of(question, choice),
-        coverage,
+        next((cost for name, _, cost in bounds if name in COVERAGES), None),
         correction_of(question),
         law_facts(question.all_year, question.item.box),
         question.laws,

@@ -431,8 +431,6 @@ def question_of(
         borrow = NONE
     if item.past == NEW and (why := why_unknown(item, prior, borrow)):
         raise NoPolicy(Remark(why, {"periods": len(item.known.counts)}))
-    if borrow == NONE:
-        prior = Prior(NONE)
     known, box, expected = item.known, item.box, expected_of(item, settings.fit)
     counts = known.counts + expected
     rates, scale, error = rates_of(item)
@@ -455,7 +453,7 @@ def question_of(
         demand,
         lead,
         returns,
-        prior,
+        Prior(NONE) if borrow == NONE else prior,
         borrow,
         error,
         in_boxes(before, box),
