@@ -7,7 +7,7 @@ weeks, months and years are of 1, 7, 30.4375 and 365.25 days, so a year has 52.1
 """
 from __future__ import annotations
 
-from collections.abc import Mapping, Sequence
+from collections.abc import Collection, Mapping, Sequence
 from dataclasses import replace
 from fractions import Fraction
 from typing import TYPE_CHECKING
@@ -74,7 +74,8 @@ DAYS = {
 # What the numbers of a role may count.
 COUNTED = HEADINGS["counted"]
 ROLE_UNITS = {role: kind for kind, its in COUNTED.items() for role in its["roles"]}
-PERIODS, NAMELESS = HEADINGS["periods"]["date"], HEADINGS["periods"]["nameless"]
+PERIODS, SOLD = HEADINGS["periods"]["date"], HEADINGS["periods"]["sold"]
+NAMELESS = HEADINGS["periods"]["nameless"]
 WANTED = COUNTED["share"]["roles"]  # shares of demand, or of periods
 TIMES = ("length", "span")  # the kinds of roles that count times
 MOST_NAME = 100  # letters of the name of a column in a message
@@ -264,6 +265,9 @@ class Finder:
         places, unclear = ([], {}) if role in self.stated else self._places(role)
         if not (places or unclear or role in self.stated):
             places = self._others(role)
+        elif places and (self.kind, role) == ("demand", "date"):
+            # Which of the days of a sale is that of the demand is not known.
+            places = sorted({*places, *self._named(SOLD)})
         if len(places) > 1:
             names = " and ".join(repr(heading[place]) for place in places)
             self._refuse(TWO_COLUMNS, role, names=names)
@@ -284,9 +288,13 @@ class Finder:
         their periods, and the only column of a wide table that has none, if its name says nothing.
         """
         if role == "date":
-            return [place for place, name in enumerate(self.plain) if name in PERIODS]
+            return self._named((*PERIODS, *SOLD))
         own = self.plain[: -len(WIDE_ROLES[self.kind]) - 1] if self.is_wide else []
         return [0] if role == "item" and len(own) == 1 and own[0] in NAMELESS else []
+
+    def _named(self, names: Collection[str]) -> list[int]:
+        """Returns the places of the columns with one of these plain names."""
+        return [place for place, name in enumerate(self.plain) if name in names]
 
     def _has_other(self, role: str) -> bool:
         """Returns whether a role is s or S, and there is a column of the other one."""
