@@ -30,6 +30,7 @@ from planner.lines import SOURCE, TOP, UNMEASURED, is_in_part, seconds_of, tests
 NAME = "tests_of_lines.json"
 # Of a line so many tests are kept, and so many are in a cover.
 MOST, TWICE = 20, 2
+PYTHON = ".py"
 # Where tests are, whose files are found by what they name.
 SUITES = "tests", "planner/tests"
 
@@ -42,7 +43,8 @@ class NoCommit(click.ClickException):
 
 
 class Module(NamedTuple):
-    """The lines of a module of crnplan, and the tests of those that one runs, by number from 1."""
+    """The lines of a module of crnplan, and the tests of those that one runs, by number from 1. Of a template these are the
+    lines of what it is compiled to."""
 
     lines: list[str]
     tests: dict[int, list[str]]
@@ -101,9 +103,9 @@ class Kept(NamedTuple):
             yield from (tests[rank] for tests in ranks if rank < len(tests))
 
     def tests_naming(self, names: Iterable[str]) -> Iterator[str]:
-        """Yields the tests of the lines that have one of some names in them."""
-        for module in self.modules.values():
-            for line, tests in module.tests.items():
+        """Yields the tests of the lines of Python that have one of some names in them."""
+        for file, module in self.modules.items():
+            for line, tests in module.tests.items() if file.endswith(PYTHON) else ():
                 if any(name in module.lines[line - 1] for name in names):
                     yield from tests
 
@@ -209,7 +211,7 @@ def touched(paths: list[str], kept: Kept | None) -> list[str]:
             else ""
         )
         is_there = (TOP / path).is_file()
-        if kept and own in kept.modules:
+        if kept and own in kept.modules and own.endswith(PYTHON):
             text = (TOP / path).read_text("utf-8") if is_there else ""
             found += kept.tests_of(own, text)
         else:

@@ -92,6 +92,16 @@ def test_templates_that_take_in_another() -> None:
     assert with_it("closed.html") == ["closed.html"]
 
 
+def test_templates_are_known_by_what_names_them() -> None:
+    """Of a template the map has the lines of what it is compiled to, which may be more than its own."""
+    naming_it = Module(['page = rendered("b.html")'], {1: ["few"]})
+    compiled = Module(["<p>"], {7: ["other"]})
+    kept = Kept("", SECONDS, {"a.py": naming_it, "templates/b.html": compiled})
+    sources = "planner/src/crnplan"
+    assert touched.touched([f"{sources}/templates/b.html"], kept) == ["few"]
+    assert touched.touched([f"{sources}/read/b.toml"], kept) == []
+
+
 def test_a_commit_that_is_not_here() -> None:
     with pytest.raises(NoCommit, match="git diff"):
         changed("0" * 40)
